@@ -1,0 +1,7 @@
+pub mod Unique
+pub mod Tests
+pub mod Memory
+pub mod Made
+pub mod Segments
+pub mod Bracket
+pub mod Record
