@@ -2,7 +2,7 @@
 -- Assumes nothing.
 use mathlib.Core.Path.{_≡_, refl, sym, ap, ap₂, _∙_}
 use mathlib.Core.Logic.{⊎-elim}
-use mathlib.Core.Bool.{Bool, true, false, _&&_, _||_, false≢true}
+use mathlib.Core.Bool.{Bool, true, false, _&&_, _||_, and-assoc, and-true, false≢true}
 use mathlib.Core.List.{List, [], _∷_}
 use Prim.Native.Nat.{ℕ, zero, suc, _+_, _-_, _≤_, _<_}
 use native.Mathlib.Nat.{not-suc-le-zero, le-of-suc-le-suc, eq-or-lt-of-le}
@@ -88,10 +88,14 @@ module _ (p : ℕ → Bool) (n i : ℕ) where
   unfolding allFrom
   all-done h = rw (done n i h)
 
-  -- a turn that goes on whatever the test says
-  pub all-turn : i < n → allFrom p i (n - i) ≡ p i && allFrom p (i + 1) (n - (i + 1))
+  -- the same for a loop that gathers the answers and goes on whatever they are
+  pub gather-more : (ok r w : Bool) → i < n → r ≡ p i → ok && allFrom p i (n - i) ≡ w → ok && r && allFrom p (i + 1) (n - (i + 1)) ≡ w
   unfolding allFrom
-  all-turn h = rw (left n i h)
+  gather-more ok r w h e inv = rw (e, and-assoc) (rw (left n i h) at inv)
+
+  pub gather-done : (ok w : Bool) → n ≤ i → ok && allFrom p i (n - i) ≡ w → ok ≡ w
+  unfolding allFrom
+  gather-done ok w h inv = rw (done n i h, and-true) at inv
 
   pub any-more : i < n → p i ≡ false → anyFrom p i (n - i) ≡ anyFrom p (i + 1) (n - (i + 1))
   unfolding anyFrom

@@ -32,11 +32,11 @@ abbrev pub argumentAt : Entry → ℕ → Argument
 argumentAt e k = getD (e .arguments) k zeroArgument
 
 -- "frames 8 to L-32", "place 8 to L-1": x is at least 8, and x and room more end within L
-abbrev pub placed : ℕ → ℕ → ℕ → Bool
+unfoldable pub placed : ℕ → ℕ → ℕ → Bool
 placed L x room = leb 8 x && leb (x + room) L
 
 -- "each argument has segment = old ring, offset ≥ 8, length 1 to 16, offset + length ≤ L, direction 1 to 3"
-abbrev pub argumentSound : ℕ → Ring → Argument → Bool
+unfoldable pub argumentSound : ℕ → Ring → Argument → Bool
 argumentSound L old a =
     conj
     (eqb (a .segment) (old .0)
@@ -48,7 +48,7 @@ argumentSound L old a =
     ∷ leb (a .direction) 3
     ∷ [])
 
-abbrev pub argumentIsZero : Argument → Bool
+unfoldable pub argumentIsZero : Argument → Bool
 argumentIsZero a = conj (eqb (a .segment) 0 ∷ eqb (a .offset) 0 ∷ eqb (a .length) 0 ∷ eqb (a .direction) 0 ∷ [])
 
 -- argument k: "arguments past the count, are all zero"
@@ -63,11 +63,11 @@ abbrev pub lengths : Entry → ℕ
 lengths e = argumentAt e 0 .length + argumentAt e 1 .length + argumentAt e 2 .length + argumentAt e 3 .length
 
 -- "Where the call was inward, the argument count is 0 and new frame + 33 ≤ L."
-abbrev pub inwardSound : ℕ → Entry → Bool
+unfoldable pub inwardSound : ℕ → Entry → Bool
 inwardSound L e = eqb (e .count) 0 && leb (e .fresh + 33) L
 
 -- "Where it was outward, the count is n ≤ 4 .. and new frame + 33 + 4n + all lengths ≤ L."
-abbrev pub outwardSound : ℕ → Entry → Bool
+unfoldable pub outwardSound : ℕ → Entry → Bool
 outwardSound L e = leb (e .count) 4 && leb (e .fresh + 33 + 4 * e .count + lengths e) L
 
 -- "in each open entry the old ring is made and differs from the ring entered, old ring ≤ level ≤ 63, old and prior frames 8 to
@@ -135,9 +135,9 @@ processSound top L p =
     && chained top L (p .made) (p .ring) (opened (p .calls) (p .entries))
     && allFrom (zeroAt (p .entries)) (p .calls) (32 - p .calls))
 
--- the newest entry
-abbrev pub newest : Process → Entry
-newest p = getD (p .entries) (p .calls - 1) noEntry
+-- the newest entry, and zeros where none is open
+unfoldable pub newest : Process → Entry
+newest p = pick (ltb 0 (p .calls)) (pick (leb (p .calls) 32) (getD (p .entries) (p .calls - 1) noEntry) zeroEntry) zeroEntry
 
 -- an accepted call into a ring: that ring runs and its stack is made, the serial is the entry's, and the entry is added
 unfoldable pub added : Process → Entry → Ring → Process
