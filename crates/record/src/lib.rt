@@ -130,14 +130,7 @@ fn entry_is_zero(e: Entry) -> bool
 }
 
 // The open entries, newest to oldest: each one's ring entered is the next one's old ring, for the newest the ring that runs.
-fn chain_sound(
-    top: Ring,
-    len: u32,
-    made: u64,
-    ring: Ring,
-    calls: u32,
-    entries: [Entry; 32],
-) -> bool
+fn chain_sound(top: Ring, len: u32, made: u64, ring: Ring, calls: u32, entries: [Entry; 32]) -> bool
     requires { ⌜ calls ≤ 32 ⌝ }
     ensures { λ r. ⌜ r ≡ chained (top .0) len made ring (opened calls entries) ⌝ }
 {
