@@ -6,3 +6,7 @@ pub mod Segments
 pub mod Bracket
 pub mod Record
 pub mod Look
+pub mod Arguments
+pub mod Call
+pub mod Return
+pub mod Step

@@ -68,6 +68,48 @@ pub enum Decision {
     Refuse(u32),
 }
 
+// "Call": what a crossing request gives; a return uses the fault and the instruction alone.
+pub struct Request {
+    pub fault: u32,
+    pub instruction: u32,
+    pub frame: u32,
+    pub place: u32,
+    pub running: u32,
+    pub target: u32,
+    pub offset: u32,
+}
+
+// The argument list that a call hands over: the reason of number 10 (0 where there is none), the count, the words that an
+// outward call copies, and the arguments, zero past the count.
+pub struct Handed {
+    pub reason: u32,
+    pub count: u32,
+    pub words: u64,
+    pub arguments: [Argument; 4],
+}
+
+// "Numbers given back": accepted, or refused with a number and a reason.
+pub enum Verdict {
+    Accepted,
+    Refused { number: u32, reason: u32 },
+}
+
+// What an entry gives back: number, reason, segment, offset, frame, argument place.
+pub struct Answer {
+    pub number: u32,
+    pub reason: u32,
+    pub segment: u32,
+    pub offset: u32,
+    pub frame: u32,
+    pub place: u32,
+}
+
+// The record after a step, with the answer.
+pub struct Outcome {
+    pub process: Process,
+    pub answer: Answer,
+}
+
 // The larger of a level and a ring, as a level: the one place where a ring becomes a level.
 pub fn larger(level: Level, ring: Ring) -> Level
     ensures { λ r. ⌜ r ≡ largerOf level ring ⌝ }
