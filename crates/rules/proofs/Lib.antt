@@ -4,4 +4,5 @@ pub mod Memory
 pub mod Made
 pub mod Segments
 pub mod Bracket
+pub mod Marked
 pub mod Record
