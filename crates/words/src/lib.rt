@@ -57,6 +57,13 @@ pub fn load(s: &[u32], len: u32, ring: Ring, at: u32) -> u32
     get(s, place(len, ring, at))
 }
 
+// The word that lies `more` words past an offset: no sum can wrap.
+pub fn load_past(s: &[u32], len: u32, ring: Ring, at: u32, more: u32) -> u32
+    ensures { λ r. ⌜ r ≡ word (now (s .entry)) (spot len (ring .0) (at + more)) ⌝ }
+{
+    get(s, place(len, ring, at) + (more as usize))
+}
+
 // One word of a stack is stored.
 pub fn store_word(s: &mut [u32], len: u32, ring: Ring, at: u32, v: u32)
     ensures { λ _. ⌜ now (s .exit) ≡ apply len (puts (ring .0) at (v ∷ [])) (now (s .entry)) ⌝ }
