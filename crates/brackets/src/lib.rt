@@ -20,7 +20,7 @@ fn refuse_if(fails: bool, reason: u32, rest: Decision) -> Decision
     }
 }
 
-fn executes(s: Segment) -> bool
+pub fn executes(s: Segment) -> bool
     ensures { λ r. ⌜ r ≡ executes s ⌝ }
 {
     s.mode / 4 % 2 == 1
@@ -34,7 +34,7 @@ fn goes_out(caller: Ring, s: Segment) -> bool
 }
 
 // "r1 ≤ r ≤ r2 no crossing"
-fn stays(caller: Ring, s: Segment) -> bool
+pub fn stays(caller: Ring, s: Segment) -> bool
     ensures { λ r. ⌜ r ≡ stays caller s ⌝ }
 {
     (s.r1.0 <= caller.0) & (caller.0 <= s.r2.0)

@@ -3,7 +3,7 @@ ghost use mathlib.Core.Path.{_≡_};
 ghost use mathlib.Core.Bool.{_&&_, true};
 ghost use Prim.Native.Nat.{_-_, _<_, _≤_, _^_};
 ghost use Rattle.rules.specs.Tests.{pick, allFrom};
-ghost use Rattle.rules.specs.Record.{zeroEntry, placed, argumentSound, argumentIsZero, argumentsSound, lengths, inwardSound, outwardSound, openSound, opened, chained, entryIsZero, zeroAt, processSound, newest, added, struck};
+ghost use Rattle.rules.specs.Record.{zeroEntry, argumentSound, argumentIsZero, argumentsSound, lengths, inwardSound, outwardSound, openSound, opened, chained, entryIsZero, zeroAt, processSound, newest, added, struck};
 use made::is_made;
 use made::with_made;
 use rules::Argument;
@@ -11,19 +11,13 @@ use rules::Entry;
 use rules::Level;
 use rules::Process;
 use rules::Ring;
+use words::is_placed;
 
 // One of two truths.
 fn choose(b: bool, x: bool, y: bool) -> bool
     ensures { λ r. ⌜ r ≡ pick b x y ⌝ }
 {
     if b { x } else { y }
-}
-
-// x is at least 8, and x and room more end within len.
-fn is_placed(len: u32, x: u32, room: u32) -> bool
-    ensures { λ r. ⌜ r ≡ placed len x room ⌝ }
-{
-    (8 <= x) & (x as u64 + room as u64 <= len as u64)
 }
 
 fn argument_sound(len: u32, old: Ring, a: Argument) -> bool

@@ -1,22 +1,21 @@
 -- Laws of specs/Bracket.antt (document 01, "Brackets"): what holds of a call that enters a ring. Assumes nothing.
 use mathlib.Core.Path.{_≡_, refl, sym, ap, _∙_}
-use mathlib.Core.Logic.{_⊎_, inl, inr}
+use mathlib.Core.Logic.{_⊎_, inl, inr, ⊎-elim}
 use mathlib.Core.Bool.{Bool, true, false, _&&_, not}
 use mathlib.Core.List.{List}
 use Prim.Native.Nat.{ℕ, _≤_, _<_}
-use native.Mathlib.Decide.{decLt}
 use native.Mathlib.Omega.{arith}
-use lib.Dec.{ltb, leb, eqb}
-use borrow.Author.Tests.{ltb-true, ltb-false, leb-false, eqb-true, eqb-false, not-false, lt-ltb, le-ltb, le-leb}
+use lib.Dec.{eqb}
+use borrow.Author.Tests.{ltb-true, ltb-false, leb-false, eqb-true, eqb-false, not-false, le-leb}
 use Rattle.rules.specs.declared.Ring.{Ring}
 use Rattle.rules.specs.declared.Segment.{Segment}
 use Rattle.rules.specs.declared.Lookup.{Lookup}
 use Rattle.rules.specs.declared.Lookup.the-variants.{Listed, Unlisted}
 use Rattle.rules.specs.declared.Decision.{Decision}
 use Rattle.rules.specs.declared.Decision.the-variants.{Enter, Refuse}
-use Rattle.rules.specs.Tests.{pick, first}
+use Rattle.rules.specs.Tests.{pick}
 use Rattle.rules.specs.Segments.{executes, lookupOf, isGate}
-use Rattle.rules.specs.Bracket.{goesOut, stays, never, aimed, faultOf, reasons, decisionOf, targetIn, targetOf}
+use Rattle.rules.specs.Bracket.{goesOut, aimed, faultOf, reasons, decisionOf, targetIn, targetOf}
 use Rattle.rules.proofs.Tests.{None, passed}
 
 -- "r < r1 outward, enters r1", "fault 2 outward", "Ring 0 makes no outward call."
@@ -34,6 +33,7 @@ pub record In (r : Ring) (fault : ℕ) (s : Segment) (hit : Bool) (to : Ring) : 
   pub fits : fault ≡ 1
   pub gated : hit ≡ true
 
+-- a call from ring r at an offset of the segment s enters the ring to
 pub record Entered (r : Ring) (fault offset : ℕ) (s : Segment) (hit : Bool) (to : Ring) : Type 0 where
   pub runs : executes s ≡ true
   pub inside : offset ≤ 262143
@@ -70,6 +70,14 @@ module _ (r : Ring) (fault offset : ℕ) (s : Segment) (hit : Bool) (to : Ring) 
       let rs = reasons r fault offset s hit in
       let h = passed enters rs (Enter (aimed r s)) (refl, (refl, (refl, (refl, (refl, (refl, (refl, tt))))))) (ap enters e) in
       facts (h .0) (let q : Enter (aimed r s) ≡ Enter to = sym (h .1) ∙ e in cc)
+
+  -- the ring entered is not the caller's, and is no ring above the highest where the brackets are sound
+  pub entered-other : Entered r fault offset s hit to → r .0 ≡ to .0 → ⊥
+  entered-other h e = ⊎-elim (λ o. let t = rw (o .into) at e in omega arith) (λ i. let t = rw (i .into) at e in omega arith) (h .way)
+
+  pub entered-below : (top : ℕ) → s .r1 .0 ≤ s .r2 .0 → s .r2 .0 ≤ s .r3 .0 → s .r3 .0 ≤ top → Entered r fault offset s hit to
+      → to .0 ≤ top
+  entered-below top a b c h = ⊎-elim (λ o. rw (o .into) (omega arith)) (λ i. rw (i .into) (omega arith)) (h .way)
 
 -- the target of a call that enters a ring is listed
 pub record Aimed (f : List ℕ) (r : Ring) (fault x offset : ℕ) (to : Ring) : Type 0 where

@@ -6,3 +6,5 @@ pub mod Segments
 pub mod Bracket
 pub mod Marked
 pub mod Record
+pub mod Arguments
+pub mod Verdicts

@@ -3,7 +3,7 @@
 use mathlib.Core.Path.{_≡_, refl, sym, ap, _∙_}
 use mathlib.Core.Bool.{Bool, true, false, _&&_, _||_}
 use mathlib.Core.List.{List, [], _∷_}
-use Prim.Native.Nat.{ℕ, zero, suc, _+_, _-_, _*_, _/_, _%_, _≤_, _<_, min}
+use Prim.Native.Nat.{ℕ, zero, suc, _+_, _-_, _*_, _%_, _≤_, _<_, min}
 use native.Mathlib.Omega.{arith}
 use lib.Dec.{leb, ltb, eqb}
 use lib.ListN.{length, getD}
@@ -11,8 +11,7 @@ use borrow.Author.Tests.{leb-true, ltb-true, eqb-true, lt-leb}
 use Rattle.rules.specs.declared.Segment.{Segment}
 use Rattle.rules.specs.declared.Found.{Found}
 use Rattle.rules.specs.declared.Found.the-variants.{At, Nothing}
-use Rattle.rules.specs.declared.Lookup.{Lookup}
-use Rattle.rules.specs.declared.Lookup.the-variants.{Listed, Unlisted}
+use Rattle.rules.specs.declared.Lookup.the-variants.{Listed}
 use Rattle.rules.specs.Tests.{pick, allFrom}
 use Rattle.rules.specs.Segments.{
   records,
@@ -38,22 +37,24 @@ use Rattle.rules.specs.Segments.{
   gateHit,
   isGate,
 }
-use Rattle.rules.proofs.Tests.{and-l, and-r, all-at, any-at}
+use Rattle.rules.proofs.Tests.{left, done, and-l, and-r, all-at, any-at}
 
 -- ---- a search over n places, of which i are done
 
 module _ (p : ℕ → Bool) (n i : ℕ) where
-  pub first-more : i < n → p i ≡ false → firstFrom p i (n - i) ≡ firstFrom p (i + 1) (n - (i + 1))
+  first-turn : i < n → firstFrom p i (n - i) ≡ pick (p i) (At i) (firstFrom p (i + 1) (n - (i + 1)))
   unfolding firstFrom
-  first-more h t = let e : n - i ≡ suc (n - (i + 1)) = omega arith in rw (e, t)
+  first-turn h = rw (left n i h)
+
+  pub first-more : i < n → p i ≡ false → firstFrom p i (n - i) ≡ firstFrom p (i + 1) (n - (i + 1))
+  first-more h t = first-turn h ∙ rw t
 
   pub first-stop : i < n → p i ≡ true → firstFrom p i (n - i) ≡ At i
-  unfolding firstFrom
-  first-stop h t = let e : n - i ≡ suc (n - (i + 1)) = omega arith in rw (e, t)
+  first-stop h t = first-turn h ∙ rw t
 
   pub first-done : n ≤ i → firstFrom p i (n - i) ≡ Nothing
   unfolding firstFrom
-  first-done h = let e : n - i ≡ 0 = omega arith in rw e
+  first-done h = rw (done n i h)
 
 -- what a search finds is a place of its run, and the test passes there
 pub first-at : (p : ℕ → Bool) (i d k : ℕ) → firstFrom p i d ≡ At k → (p k ≡ true) × (k < i + d)
@@ -66,7 +67,9 @@ first-at p i (suc d) k t = go (p i) refl t (first-at p (i + 1) d k)
     go true e t ih = let s : i ≡ k = cc in (rw (← s) e, omega arith)
     go false e t ih = let h = ih t in (h .0, omega arith)
 
--- "strictly ascending by number" and the rest of a record's rules, one by one
+-- ---- what a sound file says of its records
+
+-- the rules that record i keeps, the highest ring being top
 pub record SoundRecord (top : ℕ) (f : List ℕ) (i : ℕ) : Type 0 where
   pub low : 64 ≤ number f i
   pub high : number f i ≤ 1023
@@ -79,7 +82,7 @@ pub record SoundRecord (top : ℕ) (f : List ℕ) (i : ℕ) : Type 0 where
   pub blank : zeroByte f i ≡ 0
   pub gates : (j : ℕ) → j < 8 → gateSound f i j ≡ true
 
--- the tests of a && (b && ..), and the i-th of them where all hold
+-- tests put together as a && (b && ..), and the i-th of them where all hold
 abbrev nested : List Bool → Bool
 nested [] = true
 nested (a ∷ []) = a
@@ -100,21 +103,11 @@ or-r a b e n = rw n at e
 pub record-facts : (top : ℕ) (f : List ℕ) (i : ℕ) → recordSound top f i ≡ true → SoundRecord top f i
 unfolding recordSound
 record-facts top f i e =
-    let gated = allFrom (gateSound f i) 0 8 in
     let last = leb (length f) (i * 40 + 40) in
-    let part = nested-at (numberSound f i ∷ fieldsSound top f i ∷ gated ∷ []) in
-    let n =
-    nested-at
-    (leb 64 (number f i) ∷ leb (number f i) 1023 ∷ (last || ltb (number f i) (number f (i + 1))) ∷ []) in
-    let b =
-    nested-at
-    (leb (bracket1 f i) (bracket2 f i)
-    ∷ leb (bracket2 f i) (bracket3 f i)
-    ∷ leb (bracket3 f i) top
-    ∷ leb (modeOf f i) 7
-    ∷ leb (gateCount f i) 8
-    ∷ eqb (zeroByte f i) 0
-    ∷ []) in
+    let part = nested-at (numberSound f i ∷ fieldsSound top f i ∷ allFrom (gateSound f i) 0 8 ∷ []) in
+    let n = nested-at (leb 64 (number f i) ∷ leb (number f i) 1023 ∷ (last || ltb (number f i) (number f (i + 1))) ∷ []) in
+    let rest = leb (modeOf f i) 7 ∷ leb (gateCount f i) 8 ∷ eqb (zeroByte f i) 0 ∷ [] in
+    let b = nested-at (leb (bracket1 f i) (bracket2 f i) ∷ leb (bracket2 f i) (bracket3 f i) ∷ leb (bracket3 f i) top ∷ rest) in
     let p = part 0 e in
     let q = part 1 e in
     record {
@@ -165,7 +158,12 @@ listed-facts f x s e = go (found f x) refl e
         let h = first-at (numbered f x) 0 (min (records f) 192) k q in
         let w : s ≡ segmentAt f k = cc in
         let a : s .at ≡ k = ap (λ (t : Segment). t .at) w in
-        record { place = omega arith; below = omega arith; named = rw a (eqb-true (number f k) x (h .0)); says = w ∙ ap (segmentAt f) (sym a) }
+        record {
+          place = omega arith;
+          below = omega arith;
+          named = rw a (eqb-true (number f k) x (h .0));
+          says = w ∙ ap (segmentAt f) (sym a);
+        }
 
 -- in a sound file: the record keeps its rules, and so do the brackets of s
 pub record SoundSegment (top : ℕ) (f : List ℕ) (x : ℕ) (s : Segment) : Type 0 where
@@ -210,5 +208,6 @@ gate-within top f i offset s e =
     let h = gate-hit f i offset e in
     let j = h .0 in
     let past = leb (gateCount f i) j in
-    let t = and-l (past || leb (gate f i j) 262143) _ (and-r (leb (gateCount f i) (j + 1) || ltb (gate f i j) (gate f i (j + 1))) _ (s .gates j (h .1))) in
+    let rises = leb (gateCount f i) (j + 1) || ltb (gate f i j) (gate f i (j + 1)) in
+    let t = and-l (past || leb (gate f i j) 262143) _ (and-r rises _ (s .gates j (h .1))) in
     rw (h .3) at (leb-true (gate f i j) 262143 (or-r past _ t (lt-leb _ _ (h .2))))

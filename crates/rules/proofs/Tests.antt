@@ -69,10 +69,10 @@ any-at p i (suc d) t = go (p i) refl t (any-at p (i + 1) d)
 
 -- ---- a loop over n places, of which i are done: what is left of a run
 
-left : (n i : ℕ) → i < n → n - i ≡ suc (n - (i + 1))
+pub left : (n i : ℕ) → i < n → n - i ≡ suc (n - (i + 1))
 left n i h = omega arith
 
-done : (n i : ℕ) → n ≤ i → n - i ≡ 0
+pub done : (n i : ℕ) → n ≤ i → n - i ≡ 0
 done n i h = omega arith
 
 module _ (p : ℕ → Bool) (n i : ℕ) where

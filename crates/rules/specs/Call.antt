@@ -16,6 +16,7 @@ use Rattle.rules.specs.declared.Decision.{Decision}
 use Rattle.rules.specs.declared.Decision.the-variants.{Enter, Refuse}
 use Rattle.rules.specs.declared.Request.{Request}
 use Rattle.rules.specs.declared.Handed.{Handed}
+use Rattle.rules.specs.declared.Seen.{Seen}
 use Rattle.rules.specs.declared.Verdict.{Verdict}
 use Rattle.rules.specs.declared.Verdict.the-variants.{Accepted, Refused}
 use Rattle.rules.specs.declared.Answer.{Answer}
@@ -27,10 +28,7 @@ use Rattle.rules.specs.Segments.{fileSound, lookupOf, executes}
 use Rattle.rules.specs.Bracket.{stays, targetOf}
 use Rattle.rules.specs.Record.{zeroArgument, placed, processSound, added}
 use Rattle.rules.specs.Arguments.{argumentsAt, handedOf, copiesOf, pointing}
-
--- a number is given, with its reason
-abbrev pub number : ℕ → ℕ → Bool → Refusal Verdict
-number n reason when = record { when = when; gives = Refused n reason }
+use Rattle.rules.specs.Answer.{number, places}
 
 -- "running segment unlisted, not execute, or ring outside r1..r2" (7)
 abbrev pub runsIn : Ring → Lookup → Bool
@@ -50,137 +48,159 @@ abbrev pub why : Decision → ℕ
 why (Enter to) = 0
 why (Refuse reason) = reason
 
--- word `at` of stack k, "a stack only now made being read as made"
-abbrev pub wordIn : List ℕ → ℕ → ℕ → ℕ → ℕ → ℕ
-wordIn m L made k at = pick (isMade made k) (word m (spot L k at)) (madeWord k at)
+-- the way of a decision from ring r
+abbrev pub goesOutward : Ring → Decision → Bool
+goesOutward r d = ltb (r .0) (entered d .0)
+
+-- a word of stack k, and for a stack only now made what it reads as made: "an empty frame lies at 8 and the next at 40"
+unfoldable pub madeOr : ℕ → ℕ → ℕ → ℕ → ℕ
+madeOr made k w fresh = pick (isMade made k) w fresh
 
 -- "made target stack: 0-1 not (its ring, 8 to L-32), or that frame's 18 not its ring, or 19 below last-used + 32" (11)
-unfoldable pub baseSound : List ℕ → ℕ → ℕ → ℕ → Bool
-baseSound m L k used =
-    eqb (word m (spot L k 0)) k
-    && placed L used 32
-    && eqb (word m (spot L k (used + 18))) k
-    && leb (used + 32) (word m (spot L k (used + 19)))
+unfoldable pub baseSound : List ℕ → ℕ → ℕ → ℕ → ℕ → Bool
+baseSound m L k used fresh =
+    eqb (word m (spot L k 0)) k && placed L used 32 && eqb (word m (spot L k (used + 18))) k && leb (used + 32) fresh
 
-module _ (top : ℕ) (f m : List ℕ) (p : Process) (q : Request) where
-  -- L, the caller's ring, "word 3 of the caller's stack" and "Level = the larger of word 3 of the caller's stack and the caller's ring"
-  abbrev pub long : ℕ
-  long = stackLength m
+-- ---- what a call from ring r reads before it is judged, `made` being the set of stacks made
 
-  abbrev pub old : ℕ
-  old = p .ring .0
-
-  unfoldable pub saved : Level
-  saved = record { 0 = word m (spot long old 3) }
-
-  abbrev pub level : Level
-  level = largerOf saved (p .ring)
-
-  -- "words 20-21 of the frame": the return place
-  unfoldable pub backSegment : ℕ
-  backSegment = word m (spot long old (q .frame + 20))
-
-  unfoldable pub backOffset : ℕ
-  backOffset = word m (spot long old (q .frame + 21))
-
-  -- the target, the ring entered, and the way there
+module _ (f m : List ℕ) (r : Ring) (made : ℕ) (q : Request) where
   unfoldable pub decision : Decision
-  decision = targetOf f (p .ring) (q .fault) (q .target) (q .offset)
+  decision = targetOf f r (q .fault) (q .target) (q .offset)
 
-  abbrev pub to : Ring
-  to = entered decision
-
-  abbrev pub outward : Bool
-  outward = ltb old (to .0)
-
-  -- the argument list
   unfoldable pub handed : Handed
-  handed = handedOf f m long (p .made) (p .ring) outward (q .place)
+  handed = handedOf f m (stackLength m) made r (goesOutward r decision) (q .place)
 
-  -- the last-used frame of the target stack, "new frame = what words 18-19 of the last-used frame point to", and the "end of all
-  -- copied": new frame + 33 + 4n, and outward all lengths
+  -- the last-used frame of the target stack, and "new frame = what words 18-19 of the last-used frame point to"
   unfoldable pub used : ℕ
-  used = wordIn m long (p .made) (to .0) 1
+  used = madeOr made (entered decision .0) (word m (spot (stackLength m) (entered decision .0) 1)) 8
 
   unfoldable pub fresh : ℕ
-  fresh = wordIn m long (p .made) (to .0) (used + 19)
+  fresh = madeOr made (entered decision .0) (word m (spot (stackLength m) (entered decision .0) (used + 19))) 40
 
-  abbrev pub end : ℕ
-  end = fresh + (33 + 4 * handed .count) + handed .words
+  unfoldable pub seen : Seen
+  seen =
+      record {
+        len = stackLength m;
+        saved = record { 0 = word m (spot (stackLength m) (r .0) 3) };
+        segment = word m (spot (stackLength m) (r .0) (q .frame + 20));
+        offset = word m (spot (stackLength m) (r .0) (q .frame + 21));
+        runs = runsIn r (lookupOf f (q .running));
+        decision = decision;
+        handed = handed;
+        used = used;
+        fresh = fresh;
+        base = not (isMade made (entered decision .0)) || baseSound m (stackLength m) (entered decision .0) used fresh;
+      }
 
-  -- "Order, call: 1 2 4 5 6 7 8 9 3 10 11 12."
-  abbrev pub callTests : List (Refusal Verdict)
-  callTests =
-      number 1 0 (eqb long 0)
-      ∷ number 2 0 (not (fileSound top f))
-      ∷ number 4 0 (not (processSound top long p))
-      ∷ number 5 0 (not ((eqb (q .fault) 1 || eqb (q .fault) 2) && (eqb (q .instruction) 0 || eqb (q .instruction) 1)))
-      ∷ number 6 0 (not (placed long (q .frame) 32))
-      ∷ number 7 0 (not (runsIn (p .ring) (lookupOf f (q .running)) && eqb backSegment (q .running) && leb backOffset 262143))
-      ∷ number 8 0 (ltb top (saved .0))
-      ∷ number 9 0 (leb 32 (p .calls))
-      ∷ number 3 (why decision) (refuses decision)
-      ∷ number 10 (handed .reason) (not (eqb (handed .reason) 0))
-      ∷ number 11 0 (isMade (p .made) (to .0) && not (baseSound m long (to .0) used))
-      ∷ number 12 0 (ltb long end)
-      ∷ []
+-- ---- how it is judged
 
-  unfoldable pub callVerdict : Verdict
-  callVerdict = first callTests Accepted
+-- the ring entered
+abbrev pub to : Seen → Ring
+to v = entered (v .decision)
 
-  -- "the target stack is made if it isn't"
-  abbrev pub making : List Store
-  making = pick (isMade (p .made) (to .0)) [] (makeStack long (to .0))
+-- "Level = the larger of word 3 of the caller's stack and the caller's ring"
+abbrev pub levelOf : Ring → Seen → Level
+levelOf r v = largerOf (v .saved) r
 
+-- the place of the copies, and the "end of all copied": new frame + 33 + 4n, and outward all lengths
+abbrev pub copiesAt : Seen → ℕ
+copiesAt v = v .fresh + (33 + 4 * v .handed .count)
+
+abbrev pub endOf : Seen → ℕ
+endOf v = copiesAt v + v .handed .words
+
+-- "fault not 1 or 2, or instruction not 0 or 1" (5)
+abbrev pub asked : Request → Bool
+asked q = (eqb (q .fault) 1 || eqb (q .fault) 2) && (eqb (q .instruction) 0 || eqb (q .instruction) 1)
+
+-- "Order, call: 1 2 4 5 6 7 8 9 3 10 11 12.", by whether file and record are sound, the open count, the request and what is seen
+abbrev pub callTests : ℕ → Bool → Bool → ℕ → Request → Seen → List (Refusal Verdict)
+callTests top file sound calls q v =
+    number 1 0 (eqb (v .len) 0)
+    ∷ number 2 0 (not file)
+    ∷ number 4 0 (not sound)
+    ∷ number 5 0 (not (asked q))
+    ∷ number 6 0 (not (placed (v .len) (q .frame) 32))
+    ∷ number 7 0 (not (v .runs && eqb (v .segment) (q .running) && leb (v .offset) 262143))
+    ∷ number 8 0 (ltb top (v .saved .0))
+    ∷ number 9 0 (leb 32 calls)
+    ∷ number 3 (why (v .decision)) (refuses (v .decision))
+    ∷ number 10 (v .handed .reason) (not (eqb (v .handed .reason) 0))
+    ∷ number 11 0 (not (v .base))
+    ∷ number 12 0 (ltb (v .len) (endOf v))
+    ∷ []
+
+unfoldable pub judged : ℕ → Bool → Bool → ℕ → Request → Seen → Verdict
+judged top file sound calls q v = first (callTests top file sound calls q v) Accepted
+
+unfoldable pub callVerdict : ℕ → List ℕ → List ℕ → Process → Request → Verdict
+callVerdict top f m p q = judged top (fileSound top f) (processSound top (stackLength m) p) (p .calls) q (seen f m (p .ring) (p .made) q)
+
+-- ---- what it leaves, in terms of the memory m before the call
+
+-- "the target stack is made if it isn't"
+unfoldable pub making : ℕ → ℕ → ℕ → List Store
+making L made new = pick (isMade made new) [] (makeStack L new)
+
+-- "words 0-1 of the old stack = (old ring, frame)"; the new frame "gets the caller's 32 frame words, then 16-17 = (65536 + new
+-- ring, last-used offset), 18-19 = (new ring, end of all copied), 28-29 = (old ring, old frame)"
+unfoldable pub frameStores : List ℕ → ℕ → ℕ → ℕ → ℕ → ℕ → ℕ → List Store
+frameStores caller old frame new fresh used end =
+    puts old 0 (old ∷ frame ∷ [])
+    ++ puts new fresh caller
+    ++ puts new (fresh + 16) ((65536 + new) ∷ used ∷ [])
+    ++ puts new (fresh + 18) (new ∷ end ∷ [])
+    ++ puts new (fresh + 28) (old ∷ frame ∷ [])
+
+-- "base words of the new stack: 2 = open count with this call in it, 3 = larger of level and new ring, 4 = the new serial"
+unfoldable pub baseStores : ℕ → ℕ → Level → ℕ → List Store
+baseStores new calls level serial = puts new 2 (calls ∷ level .0 ∷ serial ∷ [])
+
+module _ (m : List ℕ) (p : Process) (q : Request) (v : Seen) where
   -- the arguments of the list, n of them
   abbrev pub arguments : List Argument
-  arguments = take (handed .count) (handed .arguments)
+  arguments = take (v .handed .count) (v .handed .arguments)
 
   -- "at new frame + 32 the list is copied. Inward, groups are unchanged. Outward, .. groups point at the copies"
   abbrev pub listWords : List ℕ
   listWords =
-      pick outward
-      ((handed .count ∷ []) ++ pointing (to .0) (fresh + (33 + 4 * handed .count)) arguments)
-      (words m (spot long old (q .place)) (1 + 4 * handed .count))
+      pick (goesOutward (p .ring) (v .decision))
+      (v .handed .count ∷ pointing (to v .0) (copiesAt v) arguments)
+      (words m (spot (v .len) (p .ring .0) (q .place)) (1 + 4 * v .handed .count))
 
   -- "Outward, the arguments themselves follow the list in order"
   abbrev pub copies : List ℕ
-  copies = pick outward (copiesOf m long old arguments) []
+  copies = pick (goesOutward (p .ring) (v .decision)) (copiesOf m (v .len) (p .ring .0) arguments) []
 
   -- the stores in the document's order
   unfoldable pub callStores : List Store
   callStores =
-      making
-      ++ puts old 0 (old ∷ q .frame ∷ [])
-      ++ puts (to .0) fresh (words m (spot long old (q .frame)) 32)
-      ++ puts (to .0) (fresh + 16) ((65536 + to .0) ∷ used ∷ [])
-      ++ puts (to .0) (fresh + 18) (to .0 ∷ end ∷ [])
-      ++ puts (to .0) (fresh + 28) (old ∷ q .frame ∷ [])
-      ++ puts (to .0) (fresh + 32) listWords
-      ++ puts (to .0) (fresh + (33 + 4 * handed .count)) copies
-      ++ puts (to .0) 2 ((p .calls + 1) ∷ largerOf level to .0 ∷ nextSerial (p .serial) ∷ [])
+      making (v .len) (p .made) (to v .0)
+      ++ frameStores (words m (spot (v .len) (p .ring .0) (q .frame)) 32) (p .ring .0) (q .frame) (to v .0) (v .fresh) (v .used) (endOf v)
+      ++ puts (to v .0) (v .fresh + 32) listWords
+      ++ puts (to v .0) (copiesAt v) copies
+      ++ baseStores (to v .0) (p .calls + 1) (largerOf (levelOf (p .ring) v) (to v)) (nextSerial (p .serial))
 
-  -- "an entry is added; an inward entry records no arguments"
-  unfoldable pub callEntry : Entry
-  callEntry =
-      record {
-        old = p .ring;
-        frame = q .frame;
-        level = level;
-        segment = backSegment;
-        offset = backOffset;
-        place = q .place;
-        prior = used;
-        fresh = fresh;
-        count = pick outward (handed .count) 0;
-        serial = nextSerial (p .serial);
-        arguments = pick outward (handed .arguments) (replicate 4 zeroArgument);
-      }
+-- "an entry is added; an inward entry records no arguments"
+unfoldable pub callEntry : Process → Request → Seen → Entry
+callEntry p q v =
+    record {
+      old = p .ring;
+      frame = q .frame;
+      level = levelOf (p .ring) v;
+      segment = v .segment;
+      offset = v .offset;
+      place = q .place;
+      prior = v .used;
+      fresh = v .fresh;
+      count = pick (goesOutward (p .ring) (v .decision)) (v .handed .count) 0;
+      serial = nextSerial (p .serial);
+      arguments = pick (goesOutward (p .ring) (v .decision)) (v .handed .arguments) (replicate 4 zeroArgument);
+    }
 
-  unfoldable pub callNext : Process
-  callNext = added p callEntry to
+unfoldable pub callNext : Process → Request → Seen → Process
+callNext p q v = added p (callEntry p q v) (to v)
 
-  -- "Returned: target segment and offset, new frame, new frame + 32."
-  unfoldable pub callAnswer : Answer
-  callAnswer =
-      record { number = 0; reason = 0; segment = q .target; offset = q .offset; frame = fresh; place = fresh + 32 }
+-- "Returned: target segment and offset, new frame, new frame + 32."
+unfoldable pub callAnswer : Request → Seen → Answer
+callAnswer q v = places (q .target) (q .offset) (v .fresh) (v .fresh + 32)

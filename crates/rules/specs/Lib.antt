@@ -7,6 +7,7 @@ pub mod Bracket
 pub mod Record
 pub mod Look
 pub mod Arguments
+pub mod Answer
 pub mod Call
 pub mod Return
 pub mod Step

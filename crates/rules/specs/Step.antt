@@ -15,8 +15,9 @@ use Rattle.rules.specs.declared.Outcome.{Outcome}
 use Rattle.rules.specs.Tests.{pick, Refusal, first}
 use Rattle.rules.specs.Memory.{Store, puts, apply, stackLength, makeStack}
 use Rattle.rules.specs.Made.{withMade}
-use Rattle.rules.specs.Record.{zeroEntry, processSound, struck}
-use Rattle.rules.specs.Call.{number, callVerdict, callStores, callNext, callAnswer}
+use Rattle.rules.specs.Record.{zeroEntry, processSound, newest, struck}
+use Rattle.rules.specs.Answer.{number, places, memoryBy, outcomeBy}
+use Rattle.rules.specs.Call.{seen, callVerdict, callStores, callNext, callAnswer}
 use Rattle.rules.specs.Return.{returnVerdict, returnStores, returnAnswer}
 
 -- what is asked: a start at a ring; a crossing; a write of a value at an offset of a stack; a look at an offset of a stack
@@ -31,26 +32,24 @@ pub record State : Type 0 where
   pub memory : List ℕ
   pub process : Process
 
--- the answer of a write, a look and the rest that gives no places
-abbrev pub plainAnswer : Answer
-plainAnswer = record { number = 0; reason = 0; segment = 0; offset = 0; frame = 0; place = 0 }
-
--- "A refusal returns its number and reason, zeros for the places"
-abbrev pub refusedAnswer : ℕ → ℕ → Answer
-refusedAnswer number reason = record { number = number; reason = reason; segment = 0; offset = 0; frame = 0; place = 0 }
-
 -- "Start: 1 14."
-abbrev pub startTests : ℕ → List ℕ → Ring → List (Refusal Verdict)
-startTests top m r = number 1 0 (eqb (stackLength m) 0) ∷ number 14 0 (ltb top (r .0)) ∷ []
+abbrev pub startTests : ℕ → ℕ → Ring → List (Refusal Verdict)
+startTests top L r = number 1 0 (eqb L 0) ∷ number 14 0 (ltb top (r .0)) ∷ []
 
--- "Write and look: 1 4 16 15": `room` words at an offset of stack k
-abbrev pub reachTests : ℕ → List ℕ → Process → Ring → ℕ → ℕ → List (Refusal Verdict)
-reachTests top m p k at room =
-    number 1 0 (eqb (stackLength m) 0)
-    ∷ number 4 0 (not (processSound top (stackLength m) p))
-    ∷ number 16 0 (ltb top (k .0) || ltb (stackLength m) (at + room))
-    ∷ number 15 0 (ltb (k .0) (p .ring .0))
+unfoldable pub judgedStart : ℕ → ℕ → Ring → Verdict
+judgedStart top L r = first (startTests top L r) Accepted
+
+-- "Write and look: 1 4 16 15": `room` words at an offset of stack k, by whether the record is sound and the running ring
+abbrev pub reachTests : ℕ → ℕ → Bool → Ring → Ring → ℕ → ℕ → List (Refusal Verdict)
+reachTests top L sound ring k at room =
+    number 1 0 (eqb L 0)
+    ∷ number 4 0 (not sound)
+    ∷ number 16 0 (ltb top (k .0) || ltb L (at + room))
+    ∷ number 15 0 (ltb (k .0) (ring .0))
     ∷ []
+
+unfoldable pub judgedReach : ℕ → ℕ → Bool → Ring → Ring → ℕ → ℕ → Verdict
+judgedReach top L sound ring k at room = first (reachTests top L sound ring k at room) Accepted
 
 -- "the record has this ring and stack and is otherwise zero"
 unfoldable pub startNext : Ring → Process
@@ -61,14 +60,12 @@ abbrev pub returns : Request → Bool
 returns q = eqb (q .instruction) 1
 
 module _ (top : ℕ) (f : List ℕ) (s : State) where
-  unfoldable pub startVerdict : Ring → Verdict
-  startVerdict r = first (startTests top (s .memory) r) Accepted
-
   unfoldable pub reachVerdict : Ring → ℕ → ℕ → Verdict
-  reachVerdict k at room = first (reachTests top (s .memory) (s .process) k at room) Accepted
+  reachVerdict k at room =
+      judgedReach top (stackLength (s .memory)) (processSound top (stackLength (s .memory)) (s .process)) (s .process .ring) k at room
 
   abbrev pub verdict : Event → Verdict
-  verdict (starts r) = startVerdict r
+  verdict (starts r) = judgedStart top (stackLength (s .memory)) r
   verdict (crosses q) = pick (returns q) (returnVerdict top f (s .memory) (s .process) q) (callVerdict top f (s .memory) (s .process) q)
   verdict (writes k at v) = reachVerdict k at 1
   verdict (looks k at) = reachVerdict k at 32
@@ -83,34 +80,35 @@ module _ (top : ℕ) (f : List ℕ) (s : State) where
   -- "that stack made, word 3 = the ring"; "Write: one word"
   abbrev pub stores : Event → List Store
   stores (starts r) = makeStack (stackLength (s .memory)) (r .0) ++ puts (r .0) 3 (r .0 ∷ [])
-  stores (crosses q) = pick (returns q) (returnStores top f (s .memory) (s .process) q) (callStores top f (s .memory) (s .process) q)
+  stores (crosses q) =
+      pick (returns q)
+      (returnStores (s .memory) (stackLength (s .memory)) (s .process .ring) (newest (s .process)))
+      (callStores (s .memory) (s .process) q (seen f (s .memory) (s .process .ring) (s .process .made) q))
   stores (writes k at v) = puts (k .0) at (v ∷ [])
   stores (looks k at) = []
 
   abbrev pub next : Event → Process
   next (starts r) = startNext r
-  next (crosses q) = pick (returns q) (struck (s .process)) (callNext top f (s .memory) (s .process) q)
+  next (crosses q) = pick (returns q) (struck (s .process)) (callNext (s .process) q (seen f (s .memory) (s .process .ring) (s .process .made) q))
   next (writes k at v) = s .process
   next (looks k at) = s .process
 
   -- "returned frame 8, other places 0"
-  abbrev pub places : Event → Answer
-  places (starts r) = record { number = 0; reason = 0; segment = 0; offset = 0; frame = 8; place = 0 }
-  places (crosses q) = pick (returns q) (returnAnswer top f (s .memory) (s .process) q) (callAnswer top f (s .memory) (s .process) q)
-  places (writes k at v) = plainAnswer
-  places (looks k at) = plainAnswer
+  abbrev pub given : Event → Answer
+  given (starts r) = places 0 0 8 0
+  given (crosses q) =
+      pick (returns q)
+      (returnAnswer (newest (s .process)))
+      (callAnswer q (seen f (s .memory) (s .process .ring) (s .process .made) q))
+  given (writes k at v) = places 0 0 0 0
+  given (looks k at) = places 0 0 0 0
 
-  abbrev pub after : Verdict → Event → State
-  after Accepted e = record { memory = apply (stackLength (s .memory)) (stores e) (ground e); process = next e }
-  after (Refused n reason) e = s
-
-  abbrev pub answer : Verdict → Event → Answer
-  answer Accepted e = places e
-  answer (Refused n reason) e = refusedAnswer n reason
-
-  unfoldable pub step : Event → State
-  step e = after (verdict e) e
-
-  -- what an entry gives back, and the store it leaves
+  -- what an entry gives back, and the state it leaves
   unfoldable pub outcome : Event → Outcome
-  outcome e = record { process = after (verdict e) e .process; answer = answer (verdict e) e }
+  outcome e = outcomeBy (verdict e) (s .process) (next e) (given e)
+
+  unfoldable pub memoryAfter : Event → List ℕ
+  memoryAfter e = memoryBy (verdict e) (s .memory) (apply (stackLength (s .memory)) (stores e) (ground e))
+
+  abbrev pub step : Event → State
+  step e = record { memory = memoryAfter e; process = outcome e .process }

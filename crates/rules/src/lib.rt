@@ -88,6 +88,22 @@ pub struct Handed {
     pub arguments: [Argument; 4],
 }
 
+// What a call reads before it is judged: L, word 3 of the caller's stack, words 20-21 of the frame, whether the running segment
+// fits, the decision on the target, the argument list, and of the target stack, a stack only now made being read as made, the
+// last-used frame, the new frame, and whether its words are in order.
+pub struct Seen {
+    pub len: u32,
+    pub saved: Level,
+    pub segment: u32,
+    pub offset: u32,
+    pub runs: bool,
+    pub decision: Decision,
+    pub handed: Handed,
+    pub used: u32,
+    pub fresh: u32,
+    pub base: bool,
+}
+
 // "Numbers given back": accepted, or refused with a number and a reason.
 pub enum Verdict {
     Accepted,

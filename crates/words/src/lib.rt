@@ -8,6 +8,7 @@ ghost use mathlib.Core.List.{[], _∷_, _++_};
 ghost use Prim.Native.Nat.{_+_, _-_, _<_, _^_, min};
 ghost use lib.ListN.{length, set, take, replicate};
 ghost use Rattle.rules.specs.Memory.{spot, word, words, puts, apply, stackLength, madeWord, makeStack};
+ghost use Rattle.rules.specs.Record.{placed};
 ghost use Rattle.rules.specs.Look.{IsPart, partStart, partLength};
 
 // ---- Places
@@ -30,6 +31,13 @@ pub fn stack_length(s: &[u32]) -> u32
     } else {
         0
     }
+}
+
+// "8 to L-32", "8 to L-1": x is at least 8, and x and room more end within a stack.
+pub fn is_placed(len: u32, x: u32, room: u32) -> bool
+    ensures { λ r. ⌜ r ≡ placed len x room ⌝ }
+{
+    (8 <= x) & (x as u64 + room as u64 <= len as u64)
 }
 
 // ---- One word

@@ -1,3 +1,4 @@
+-- `brackets::aimed` meets its contract. The two cases of the ring aimed at. Assumes nothing.
 use mathlib.Core.Path.{sym, _∙_}
 use borrow.Author.Needs.{needs}
 use Rattle.brackets.proofs.aimed.Statement.{statement}

@@ -1,3 +1,4 @@
+-- `brackets::decide` meets its contract. The chain of refusals is the list of reasons, in its order. Assumes nothing.
 use Rattle.rules.specs.Bracket.{decisionOf}
 use borrow.Author.Needs.{needs}
 use Rattle.brackets.proofs.decide.Statement.{statement}

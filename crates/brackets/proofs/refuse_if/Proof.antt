@@ -1,3 +1,4 @@
+-- `brackets::refuse_if` meets its contract. The two cases of one refusal. Assumes nothing.
 use Rattle.rules.specs.Tests.{refuseIf}
 use Rattle.brackets.proofs.refuse_if.Statement.{statement}
 use Rattle.brackets.proofs.refuse_if.Tie as tie

@@ -8,7 +8,6 @@ use Rattle.made.proofs.is_made.Reads as is-made-reads
 use Rattle.record.proofs.arguments_sound.Reads as arguments-sound-reads
 use Rattle.record.proofs.choose.Reads as choose-reads
 use Rattle.record.proofs.inward_sound.Reads as inward-sound-reads
-use Rattle.record.proofs.is_placed.Reads as is-placed-reads
 use Rattle.record.proofs.outward_sound.Reads as outward-sound-reads
 
 -- src/lib.rt:94:5

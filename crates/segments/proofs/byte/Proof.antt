@@ -1,3 +1,4 @@
+-- `segments::byte` meets its contract. Past the end of a list `getD` gives its default, 0. Assumes nothing.
 use mathlib.Core.Path.{sym}
 use lib.ListN.{List·getD-eq-default}
 use borrow.Author.Needs.{needs}

@@ -1,3 +1,4 @@
+-- `segments::fields_sound` meets its contract. The code's tests are the rule's, with what `read` ensures of bytes within the file. Assumes nothing.
 use borrow.Author.Needs.{needs}
 use Rattle.segments.proofs.fields_sound.Statement.{statement}
 use Rattle.segments.proofs.fields_sound.Tie as tie

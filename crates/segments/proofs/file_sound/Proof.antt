@@ -1,3 +1,4 @@
+-- `segments::file_sound` meets its contract. At most 192 records, no bytes over, each record sound. Assumes nothing.
 use Prim.Native.Nat.{_<_, _≤_}
 use native.Mathlib.Omega.{arith}
 use borrow.Author.Tests.{lt-leb, le-leb}

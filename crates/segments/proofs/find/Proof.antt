@@ -1,3 +1,4 @@
+-- `segments::find` meets its contract. The loop's invariant: what is left of the search gives the whole answer. Assumes nothing.
 use mathlib.Core.Path.{_≡_, sym, _∙_}
 use Prim.Native.Nat.{_-_, _≤_}
 use native.Mathlib.Nat.{sub-zero}

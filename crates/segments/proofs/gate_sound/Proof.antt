@@ -1,3 +1,4 @@
+-- `segments::gate_sound` meets its contract. The code's tests are the rule's, at the two gates that it is handed. Assumes nothing.
 use borrow.Author.Needs.{needs}
 use Rattle.segments.proofs.gate_sound.Statement.{statement}
 use Rattle.segments.proofs.gate_sound.Tie as tie

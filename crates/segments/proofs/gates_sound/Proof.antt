@@ -1,3 +1,4 @@
+-- `segments::gates_sound` meets its contract. The loop's invariant: `g` is gate j, and what is left to test is what the whole test comes to. Assumes nothing.
 use mathlib.Core.Path.{_≡_, sym, _∙_}
 use Prim.Native.Nat.{_-_, _≤_}
 use borrow.Author.Tests.{not-true, not-false}

@@ -1,3 +1,4 @@
+-- `segments::is_gate` meets its contract. The loop's invariant: `c` is the gate count, and what is left of the gates gives the whole answer. Assumes nothing.
 use mathlib.Core.Path.{_≡_, sym, _∙_}
 use Prim.Native.Nat.{_-_, _≤_}
 use Rattle.rules.specs.Tests.{anyFrom}

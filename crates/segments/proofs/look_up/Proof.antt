@@ -1,3 +1,4 @@
+-- `segments::look_up` meets its contract. The record that is found, or none. Assumes nothing.
 use mathlib.Core.Path.{ap, sym, _∙_}
 use Rattle.rules.specs.declared.Lookup.the-variants.{Listed}
 use Rattle.rules.specs.Segments.{lookupOf, listedAt}

@@ -1,3 +1,4 @@
+-- `segments::number_sound` meets its contract. The code's tests are the rule's, with what `number_of` ensures. Assumes nothing.
 use borrow.Author.Needs.{needs}
 use Rattle.segments.proofs.number_sound.Statement.{statement}
 use Rattle.segments.proofs.number_sound.Tie as tie

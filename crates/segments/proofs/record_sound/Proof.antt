@@ -1,3 +1,4 @@
+-- `segments::record_sound` meets its contract. The three parts of a record's rule. Assumes nothing.
 use Rattle.rules.specs.Segments.{recordSound}
 use borrow.Author.Needs.{needs}
 use Rattle.segments.proofs.record_sound.Statement.{statement}

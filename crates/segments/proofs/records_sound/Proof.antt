@@ -1,3 +1,4 @@
+-- `segments::records_sound` meets its contract. The loop's invariant: what is left to test is what the whole test comes to. Assumes nothing.
 use mathlib.Core.Path.{_≡_, sym, _∙_}
 use Prim.Native.Nat.{_-_, _≤_}
 use native.Mathlib.Nat.{sub-zero}

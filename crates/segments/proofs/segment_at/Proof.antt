@@ -1,3 +1,4 @@
+-- `segments::segment_at` meets its contract. The fields of a record, byte by byte. Assumes nothing.
 use Rattle.rules.specs.Segments.{segmentAt}
 use borrow.Author.Needs.{needs}
 use Rattle.segments.proofs.segment_at.Statement.{statement}
