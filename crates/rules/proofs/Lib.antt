@@ -8,3 +8,4 @@ pub mod Marked
 pub mod Record
 pub mod Arguments
 pub mod Verdicts
+pub mod Called

@@ -156,50 +156,50 @@ frameStores caller old frame new fresh used end =
 unfoldable pub baseStores : ℕ → ℕ → Level → ℕ → List Store
 baseStores new calls level serial = puts new 2 (calls ∷ level .0 ∷ serial ∷ [])
 
-module _ (m : List ℕ) (p : Process) (q : Request) (v : Seen) where
-  -- the arguments of the list, n of them
-  abbrev pub arguments : List Argument
-  arguments = take (v .handed .count) (v .handed .arguments)
+-- the arguments of the list, n of them
+abbrev pub arguments : Seen → List Argument
+arguments v = take (v .handed .count) (v .handed .arguments)
 
+module _ (m : List ℕ) (r : Ring) (made calls serial : ℕ) (q : Request) (v : Seen) where
   -- "at new frame + 32 the list is copied. Inward, groups are unchanged. Outward, .. groups point at the copies"
   abbrev pub listWords : List ℕ
   listWords =
-      pick (goesOutward (p .ring) (v .decision))
-      (v .handed .count ∷ pointing (to v .0) (copiesAt v) arguments)
-      (words m (spot (v .len) (p .ring .0) (q .place)) (1 + 4 * v .handed .count))
+      pick (goesOutward r (v .decision))
+      (v .handed .count ∷ pointing (to v .0) (copiesAt v) (arguments v))
+      (words m (spot (v .len) (r .0) (q .place)) (1 + 4 * v .handed .count))
 
   -- "Outward, the arguments themselves follow the list in order"
   abbrev pub copies : List ℕ
-  copies = pick (goesOutward (p .ring) (v .decision)) (copiesOf m (v .len) (p .ring .0) arguments) []
+  copies = pick (goesOutward r (v .decision)) (copiesOf m (v .len) (r .0) (arguments v)) []
 
   -- the stores in the document's order
   unfoldable pub callStores : List Store
   callStores =
-      making (v .len) (p .made) (to v .0)
-      ++ frameStores (words m (spot (v .len) (p .ring .0) (q .frame)) 32) (p .ring .0) (q .frame) (to v .0) (v .fresh) (v .used) (endOf v)
+      making (v .len) made (to v .0)
+      ++ frameStores (words m (spot (v .len) (r .0) (q .frame)) 32) (r .0) (q .frame) (to v .0) (v .fresh) (v .used) (endOf v)
       ++ puts (to v .0) (v .fresh + 32) listWords
       ++ puts (to v .0) (copiesAt v) copies
-      ++ baseStores (to v .0) (p .calls + 1) (largerOf (levelOf (p .ring) v) (to v)) (nextSerial (p .serial))
+      ++ baseStores (to v .0) (calls + 1) (largerOf (levelOf r v) (to v)) (nextSerial serial)
 
 -- "an entry is added; an inward entry records no arguments"
-unfoldable pub callEntry : Process → Request → Seen → Entry
-callEntry p q v =
+unfoldable pub callEntry : Ring → ℕ → Request → Seen → Entry
+callEntry r serial q v =
     record {
-      old = p .ring;
+      old = r;
       frame = q .frame;
-      level = levelOf (p .ring) v;
+      level = levelOf r v;
       segment = v .segment;
       offset = v .offset;
       place = q .place;
       prior = v .used;
       fresh = v .fresh;
-      count = pick (goesOutward (p .ring) (v .decision)) (v .handed .count) 0;
-      serial = nextSerial (p .serial);
-      arguments = pick (goesOutward (p .ring) (v .decision)) (v .handed .arguments) (replicate 4 zeroArgument);
+      count = pick (goesOutward r (v .decision)) (v .handed .count) 0;
+      serial = nextSerial serial;
+      arguments = pick (goesOutward r (v .decision)) (v .handed .arguments) (replicate 4 zeroArgument);
     }
 
 unfoldable pub callNext : Process → Request → Seen → Process
-callNext p q v = added p (callEntry p q v) (to v)
+callNext p q v = added p (callEntry (p .ring) (p .serial) q v) (to v)
 
 -- "Returned: target segment and offset, new frame, new frame + 32."
 unfoldable pub callAnswer : Request → Seen → Answer

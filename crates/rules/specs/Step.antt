@@ -83,7 +83,7 @@ module _ (top : ℕ) (f : List ℕ) (s : State) where
   stores (crosses q) =
       pick (returns q)
       (returnStores (s .memory) (stackLength (s .memory)) (s .process .ring) (newest (s .process)))
-      (callStores (s .memory) (s .process) q (seen f (s .memory) (s .process .ring) (s .process .made) q))
+      (callStores (s .memory) (s .process .ring) (s .process .made) (s .process .calls) (s .process .serial) q (seen f (s .memory) (s .process .ring) (s .process .made) q))
   stores (writes k at v) = puts (k .0) at (v ∷ [])
   stores (looks k at) = []
 
