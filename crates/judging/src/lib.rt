@@ -8,12 +8,16 @@ ghost use lib.Dec.{ltb};
 ghost use Rattle.rules.specs.Tests.{pick, refuseIf};
 ghost use Rattle.rules.specs.Segments.{lookupOf};
 ghost use Rattle.rules.specs.Call.{runsIn, entered, refuses, why, baseSound, seen, asked, endOf, judged};
+ghost use Rattle.rules.specs.Answer.{places, outcomeBy};
 ghost use Rattle.rules.specs.Return.{faultBack, judgedBack};
 ghost use Rattle.rules.specs.Step.{judgedStart, judgedReach};
+use rules::Answer;
 use rules::Decision;
 use rules::Entry;
 use rules::Level;
 use rules::Lookup;
+use rules::Outcome;
+use rules::Process;
 use rules::Request;
 use rules::Ring;
 use rules::Seen;
@@ -221,4 +225,31 @@ pub fn judge_reach(
     let below = refuse_if(stack.0 < ring.0, 15, 0, Verdict::Accepted);
     let record = refuse_if(!sound, 4, 0, refuse_if(outside, 16, 0, below));
     refuse_if(len == 0, 1, 0, record)
+}
+
+// ---- A refusal
+
+// A number with its reason, and zeros as places.
+fn told(p: Process, number: u32, reason: u32) -> Outcome
+    ensures { λ r. ⌜ r ≡ outcomeBy (Refused number reason) p p (places 0 0 0 0) ⌝ }
+{
+    let answer = Answer {
+        number,
+        reason,
+        segment: 0,
+        offset: 0,
+        frame: 0,
+        place: 0,
+    };
+    Outcome { process: p, answer }
+}
+
+// "Every refusal changes nothing and gives zeros as places": the record as it was, with a verdict's number and reason.
+pub fn unchanged(p: Process, v: Verdict) -> Outcome
+    ensures { λ r. ⌜ r ≡ outcomeBy v p p (places 0 0 0 0) ⌝ }
+{
+    match v {
+        Verdict::Accepted => told(p, 0, 0),
+        Verdict::Refused { number, reason } => told(p, number, reason),
+    }
 }

@@ -1,30 +1,26 @@
+use mathlib.Core.Path.{sym, _∙_}
+use Rattle.rules.specs.Call.{making}
+use Rattle.rules.specs.Memory.{apply}
 use borrow.Author.Needs.{needs}
 use Rattle.calls.proofs.make_if.Statement.{statement}
 use Rattle.calls.proofs.make_if.Tie as tie
-use Rattle.calls.proofs.make_if.Reads as reads
-use Rattle.calls.proofs.make_if.Lts as lts
-use Rattle.made.proofs.is_made.Reads as is-made-reads
-use Rattle.words.proofs.make_stack.Reads as make-stack-reads
 
--- src/lib.rt:67:8
 is-made-requires : tie.Need-is-made-requires
 is-made-requires c κs = search needs
 
--- src/lib.rt:68:9
 returns : tie.Need-returns
-returns c = ?
+unfolding making apply
+returns c = rw (sym (c .before .is-made .ensures) ∙ c .if1 .taken)
 
--- src/lib.rt:70:5
 make-stack-requires : tie.Need-make-stack-requires
 make-stack-requires c κs = search needs
 
--- src/lib.rt:64:1
 same-length : tie.Need-same-length
 same-length c = search needs
 
--- src/lib.rt:64:1
 returns-2 : tie.Need-returns-2
-returns-2 c = ?
+unfolding making
+returns-2 c = rw (sym (c .before .before .before .before .before .is-made .ensures) ∙ c .before .before .before .before .if1 .left) (c .before .before .make-stack .ensures)
 
 pub make-if-spec : {M : Type 1} → statement M
 make-if-spec =

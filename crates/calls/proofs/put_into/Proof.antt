@@ -1,53 +1,49 @@
+use borrow.Author.Needs.{needs}
+use lib.ListN.{length, take}
+use native.Mathlib.Omega.{arith}
+use native.Mathlib.Nat.{le-antisymm, add-zero}
+use Prim.Native.Nat.{_+_, _-_, _≤_, _<_}
+use mathlib.Core.List.{_++_, [], append-nil}
+use mathlib.Core.Path.{_≡_, refl, sym, ap, _∙_}
+use Rattle.calls.proofs.Laws.{into-turn}
 use Rattle.calls.proofs.put_into.Statement.{statement}
 use Rattle.calls.proofs.put_into.Tie as tie
-use Rattle.calls.proofs.put_into.Reads as reads
-use Rattle.calls.proofs.put_into.Lts as lts
 
 abbrev Inv-loop : tie.InvT-loop
-Inv-loop at n b c₀ i₀ c i = ?
+Inv-loop at n b c₀ i₀ c i = (i ≤ n) × (length c ≡ 64) × (take (at + i) c ≡ take at c₀ ++ take i b)
 
 abbrev μ-loop : tie.MeasureT-loop
-μ-loop at n b c₀ i₀ c i = ?
+μ-loop at n b c₀ i₀ c i = n - i
 
--- src/lib.rt:35:5
 loop-holds : tie.Need-loop-holds Inv-loop μ-loop
-loop-holds c = ?
+loop-holds c = (search needs, search needs, rw (add-zero, append-nil))
 
--- src/lib.rt:36:21
 mul-c : tie.Need-mul-c Inv-loop μ-loop
-mul-c c = ?
+mul-c c = search needs
 
--- src/lib.rt:36:21
 array-read-c : tie.Need-array-read-c Inv-loop μ-loop
-array-read-c c = ?
+array-read-c c = search needs
 
--- src/lib.rt:36:11
 add-c : tie.Need-add-c Inv-loop μ-loop
-add-c c = ?
+add-c c = search needs
 
--- src/lib.rt:36:9
 mul-c-2 : tie.Need-mul-c-2 Inv-loop μ-loop
-mul-c-2 c = ?
+mul-c-2 c = search needs
 
--- src/lib.rt:36:9
 array-write-c : tie.Need-array-write-c Inv-loop μ-loop
-array-write-c c = ?
+array-write-c c = search needs
 
--- src/lib.rt:37:9
 add-i : tie.Need-add-i Inv-loop μ-loop
-add-i c = ?
+add-i c = search needs
 
--- src/lib.rt:35:5
 loop-less : tie.Need-loop-less Inv-loop μ-loop
-loop-less c = ?
+loop-less c = search needs
 
--- src/lib.rt:35:5
 loop-again : tie.Need-loop-again Inv-loop μ-loop
-loop-again c = ?
+loop-again c = let l = c .before .loop in let room : c .before .before .args .at + l .i < length (l .c) = omega arith in (search needs, search needs, into-turn _ _ (l .c) _ (c .before .before .args .t3) room (search needs) (l .inv .2))
 
--- src/lib.rt:29:1
 returns : tie.Need-returns Inv-loop μ-loop
-returns c = ?
+returns c = let e = le-antisymm (c .before .loop .inv .0) (c .loop-test .left) in rw e at (c .before .loop .inv .2)
 
 pub put-into-spec : {M : Type 1} → statement M
 put-into-spec =
