@@ -1,6 +1,5 @@
--- Laws of the copies that go back, of what an accepted return may rely on, and of what an else arm knows of a verdict.
--- Assumes nothing.
-use mathlib.Core.Path.{_≡_, refl}
+-- Laws of a refusal, of the copies that go back, and of what an accepted return may rely on. Assumes nothing.
+use mathlib.Core.Path.{_≡_, refl, sym, _∙_}
 use mathlib.Core.Bool.{Bool, true, false}
 use mathlib.Core.List.{List, [], _∷_, _++_, append-assoc, append-nil}
 use Prim.Native.Nat.{ℕ, zero, suc, _+_, _*_, _<_, _≤_}
@@ -17,18 +16,26 @@ use Rattle.rules.specs.declared.Entry.{Entry}
 use Rattle.rules.specs.declared.Process.{Process}
 use Rattle.rules.specs.declared.Request.{Request}
 use Rattle.rules.specs.declared.Verdict.{Verdict}
-use Rattle.rules.specs.declared.Verdict.the-variants.{Accepted}
+use Rattle.rules.specs.declared.Verdict.the-variants.{Accepted, Refused}
+use Rattle.rules.specs.declared.Answer.{Answer}
+use Rattle.rules.specs.declared.Outcome.{Outcome}
 use Rattle.rules.specs.Tests.{pick}
 use Rattle.rules.specs.Memory.{spot, word, upTo, words, puts, apply, stackLength}
 use Rattle.rules.specs.Segments.{fileSound}
 use Rattle.rules.specs.Record.{lengths, inwardSound, outwardSound, processSound, newest}
 use Rattle.rules.specs.Arguments.{wordsIn}
+use Rattle.rules.specs.Answer.{places, memoryBy, outcomeBy}
 use Rattle.rules.specs.Return.{backStores, judgedBack, returnVerdict, returnStores}
 use Rattle.rules.proofs.Tests.{and-l, and-r}
 use Rattle.rules.proofs.Memory.{length-told, puts-append, then, length-words, words-get}
 use Rattle.rules.proofs.Record.{newest-open, Held, held, lent}
 use Rattle.rules.proofs.Verdicts.{JudgedBack, return-facts}
 use Rattle.returns.specs.Back.{backOne, backFrom, Short, Ready}
+
+-- "Every refusal changes nothing and gives zeros as places."
+pub kept : {v w : Verdict} {n reason : ℕ} (r : Outcome) (p next : Process) (given : Answer) (m after : List ℕ) → v ≡ w → v ≡ Refused n reason
+    → r ≡ outcomeBy v p p (places 0 0 0 0) → (r ≡ outcomeBy w p next given) × (m ≡ memoryBy w m after)
+kept r p next given m after same told out = let refused = sym same ∙ told in (rw refused (rw told at out), rw refused)
 
 -- ---- the loop that stores the words of an array one by one, from a word on
 

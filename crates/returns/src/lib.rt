@@ -1,11 +1,10 @@
 // Document 01, "Return": the newest entry is struck and zeroed, the left stack and the old stack are set back, and the arguments of
 // an outward call are copied back. Everything comes from the entry; of the left stack only the words of the copies are read.
 ghost use mathlib.Core.Path.{_≡_};
-ghost use mathlib.Core.Bool.{true};
-ghost use Prim.Native.Nat.{_+_, _*_, _≤_};
+ghost use Prim.Native.Nat.{_+_, _≤_};
 ghost use lib.ListN.{take};
 ghost use Rattle.rules.specs.Memory.{apply, stackLength};
-ghost use Rattle.rules.specs.Record.{argumentsSound, newest, struck};
+ghost use Rattle.rules.specs.Record.{newest, struck};
 ghost use Rattle.rules.specs.Answer.{memoryBy, outcomeBy};
 ghost use Rattle.rules.specs.Return.{returnVerdict, returnStores, returnAnswer};
 ghost use Rattle.returns.specs.Back.{backOne, backFrom, Short, Ready};

@@ -1,14 +1,14 @@
 -- What an accepted call says of the store, the target and the argument list (specs/Call.antt). Assumes nothing.
 use mathlib.Core.Path.{_≡_, refl, sym, ap, _∙_}
 use mathlib.Core.Logic.{⊎-elim}
-use mathlib.Core.Bool.{Bool, true, false}
+use mathlib.Core.Bool.{Bool, true, false, _&&_, _||_, not}
 use mathlib.Core.List.{List, [], _∷_}
 use Prim.Native.Nat.{ℕ, zero, suc, _+_, _*_, _<_, _≤_}
 use native.Mathlib.Decide.{decLt}
 use native.Mathlib.Omega.{arith}
-use lib.Dec.{ltb}
+use lib.Dec.{leb, ltb, eqb}
 use lib.ListN.{length, take}
-use borrow.Author.Tests.{lt-ltb, le-ltb}
+use borrow.Author.Tests.{lt-ltb, le-ltb, leb-true}
 use Rattle.rules.specs.declared.Ring.{Ring}
 use Rattle.rules.specs.declared.Argument.{Argument}
 use Rattle.rules.specs.declared.Process.{Process}
@@ -19,9 +19,11 @@ use Rattle.rules.specs.declared.Verdict.the-variants.{Accepted}
 use Rattle.rules.specs.Tests.{pick}
 use Rattle.rules.specs.Memory.{spot, word, stackLength}
 use Rattle.rules.specs.Segments.{fileSound}
-use Rattle.rules.specs.Record.{processSound}
+use Rattle.rules.specs.Record.{placed, processSound}
 use Rattle.rules.specs.Arguments.{groupAt, groupOr, argumentsAt, wordsIn, handedOf}
-use Rattle.rules.specs.Call.{goesOutward, decision, handed, seen, to, arguments, callVerdict}
+use Rattle.rules.specs.Made.{isMade}
+use Rattle.rules.specs.Call.{goesOutward, entered, decision, handed, madeOr, baseSound, used, fresh, seen, to, arguments, callVerdict}
+use Rattle.rules.proofs.Tests.{and-l, and-r}
 use Rattle.rules.proofs.Memory.{length-told}
 use Rattle.rules.proofs.Segments.{segment-facts}
 use Rattle.rules.proofs.Bracket.{Out, In, Entered, Aimed, aimed-at, entered-other, entered-below}
@@ -50,6 +52,24 @@ module _ (f m : List ℕ) (L made : ℕ) (r : Ring) (outward : Bool) (place n : 
 
   pub words-few : wordsIn (argumentsAt m L (r .0) place n) ≤ 64
   words-few = omega (arith, short 0, short 1, short 2, short 3)
+
+-- ---- the new frame
+
+-- a made target stack: "19 below last-used + 32" gives 11
+base-high : (m : List ℕ) (L k used fresh : ℕ) → baseSound m L k used fresh ≡ true → 40 ≤ fresh
+unfolding baseSound placed
+base-high m L k used fresh e =
+    let first = eqb (word m (spot L k 0)) k && (leb 8 used && leb (used + 32) L) in
+    let both = first && eqb (word m (spot L k (used + 18))) k in
+    let last = leb-true (used + 32) fresh (and-r both (leb (used + 32) fresh) e) in
+    let inner = and-l first (eqb (word m (spot L k (used + 18))) k) (and-l both (leb (used + 32) fresh) e) in
+    let low = leb-true 8 used (and-l (leb 8 used) (leb (used + 32) L) (and-r (eqb (word m (spot L k 0)) k) (leb 8 used && leb (used + 32) L) inner)) in
+    omega arith
+
+-- a stack only now made
+new-high : (f m : List ℕ) (r : Ring) (made : ℕ) (q : Request) → isMade made (entered (decision f m r made q) .0) ≡ false → 40 ≤ fresh f m r made q
+unfolding fresh madeOr
+new-high f m r made q e = rw e (omega arith)
 
 -- ---- an accepted call
 
@@ -87,3 +107,14 @@ module _ (top : ℕ) (f m : List ℕ) (p : Process) (q : Request) where
       let n = word m (spot (stackLength m) (p .ring .0) (q .place)) in
       let few = words-few f m (stackLength m) (p .made) (p .ring) (goesOutward (p .ring) (decision f m (p .ring) (p .made) q)) (q .place) n (c .list) in
       rw out (words-taken m (stackLength m) (p .ring .0) (q .place) n (c .list .count), few)
+
+  -- the new frame lies past the first one: "an empty frame lies at 8 and the next at 40"
+  pub fresh-high : Called top f m p q (seen f m (p .ring) (p .made) q) → 40 ≤ seen f m (p .ring) (p .made) q .fresh
+  unfolding seen
+  fresh-high c = go (isMade (p .made) (entered (decision f m (p .ring) (p .made) q) .0)) refl (c .tests .base)
+    where
+      go : (b : Bool) → isMade (p .made) (entered (decision f m (p .ring) (p .made) q) .0) ≡ b
+          → not b || baseSound m (stackLength m) (entered (decision f m (p .ring) (p .made) q) .0) (used f m (p .ring) (p .made) q) (fresh f m (p .ring) (p .made) q) ≡ true
+          → 40 ≤ fresh f m (p .ring) (p .made) q
+      go true e w = base-high m (stackLength m) _ _ _ w
+      go false e w = new-high f m (p .ring) (p .made) q e

@@ -9,3 +9,8 @@ pub mod Record
 pub mod Arguments
 pub mod Verdicts
 pub mod Called
+pub mod Extent
+pub mod Runs
+pub mod LooksRight
+pub mod Demand3
+pub mod ControlRoom

@@ -151,19 +151,28 @@ elsewhere L j k x y hx hy ne e = go (decLt j k) (decLt k j)
     go (no l) (no g) = let q : j ≡ k = omega arith in ne (q, omega (arith, ap (λ (z : ℕ). z * L) q))
 
 -- what holds of the stack and offset of each store
-abbrev pub Each : (ℕ → ℕ → Type 0) → List Store → Type 0
-Each P [] = Unit {0}
-Each P (s ∷ ss) = P (s .stack) (s .offset) × Each P ss
+pub data Each (P : ℕ → ℕ → Type 0) : List Store → Type 0 where
+  nothing : Each P []
+  more : {s : Store} {ss : List Store} → P (s .stack) (s .offset) → Each P ss → Each P (s ∷ ss)
 
-pub each-append : (P : ℕ → ℕ → Type 0) (a b : List Store) → Each P a → Each P b → Each P (a ++ b)
-each-append P [] b x y = y
-each-append P (s ∷ a) b x y = (x .0, each-append P a b (x .1) y)
+pub each-append : {P : ℕ → ℕ → Type 0} {a b : List Store} → Each P a → Each P b → Each P (a ++ b)
+each-append nothing y = y
+each-append (more h x) y = more h (each-append x y)
 
 pub each-puts : (P : ℕ → ℕ → Type 0) (k at : ℕ) (vs : List ℕ) → ((i : ℕ) → i < length vs → P k (at + i)) → Each P (puts k at vs)
 unfolding puts
-each-puts P k at [] h = tt
+each-puts P k at [] h = nothing
 each-puts P k at (v ∷ vs) h =
-    (rw add-zero at (h 0 (omega arith)), each-puts P k (suc at) vs (λ i l. rw (suc-add, ← add-suc) (h (suc i) (omega arith))))
+    more (rw add-zero at (h 0 (omega arith))) (each-puts P k (suc at) vs (λ i l. rw (suc-add, ← add-suc) (h (suc i) (omega arith))))
+
+-- one word, and two
+pub each-one : (P : ℕ → ℕ → Type 0) (k at v : ℕ) → P k at → Each P (puts k at (v ∷ []))
+unfolding puts
+each-one P k at v h = more h nothing
+
+pub each-two : (P : ℕ → ℕ → Type 0) (k at v w : ℕ) → P k at → P k (suc at) → Each P (puts k at (v ∷ w ∷ []))
+unfolding puts
+each-two P k at v w h g = more h (more g nothing)
 
 -- one store more in front: what it means for a word, where the rest leaves the word as it is or P holds
 framed-one : (L : ℕ) (P : ℕ → ℕ → Type 0) (s : Store) (m : List ℕ) (later k o : ℕ) → (s .offset < L) × P (s .stack) (s .offset) → o < L
@@ -188,8 +197,8 @@ pub framed : (L : ℕ) (P : ℕ → ℕ → Type 0) (ss : List Store) (m : List 
     → (k o : ℕ) → o < L → (word (apply L ss m) (spot L k o) ≡ word m (spot L k o)) ⊎ P k o
 unfolding apply
 framed L P [] m h k o l = inl refl
-framed L P (s ∷ ss) m h k o l =
-    framed-one L P s m _ k o (h .0) l (framed L P ss (set m (spot L (s .stack) (s .offset)) (s .value)) (h .1) k o l)
+framed L P (s ∷ ss) m (more h rest) k o l =
+    framed-one L P s m _ k o h l (framed L P ss (set m (spot L (s .stack) (s .offset)) (s .value)) rest k o l)
 
 -- stores in other stacks leave a stack as it was
 pub untouched : (L k : ℕ) (ss : List Store) (m : List ℕ) → Each (λ j o. (o < L) × (j ≡ k → ⊥)) ss → (o : ℕ) → o < L

@@ -11,3 +11,4 @@ pub mod Answer
 pub mod Call
 pub mod Return
 pub mod Step
+pub mod History

@@ -13,7 +13,7 @@ use Rattle.rules.specs.declared.Verdict.{Verdict}
 use Rattle.rules.specs.declared.Verdict.the-variants.{Accepted}
 use Rattle.rules.specs.declared.Answer.{Answer}
 use Rattle.rules.specs.Tests.{pick, Refusal, first}
-use Rattle.rules.specs.Memory.{spot, words, Store, puts, stackLength}
+use Rattle.rules.specs.Memory.{spot, word, words, Store, puts, stackLength}
 use Rattle.rules.specs.Segments.{fileSound}
 use Rattle.rules.specs.Record.{processSound, newest, struck}
 use Rattle.rules.specs.Bracket.{faultOf}

@@ -13,7 +13,7 @@ use Rattle.rules.specs.declared.Verdict.the-variants.{Accepted, Refused}
 use Rattle.rules.specs.declared.Answer.{Answer}
 use Rattle.rules.specs.declared.Outcome.{Outcome}
 use Rattle.rules.specs.Tests.{pick, Refusal, first}
-use Rattle.rules.specs.Memory.{Store, puts, apply, stackLength, makeStack}
+use Rattle.rules.specs.Memory.{spot, word, Store, puts, apply, stackLength, makeStack}
 use Rattle.rules.specs.Made.{withMade}
 use Rattle.rules.specs.Record.{zeroEntry, processSound, newest, struck}
 use Rattle.rules.specs.Answer.{number, places, memoryBy, outcomeBy}

@@ -1,7 +1,7 @@
 use mathlib.Core.Path.{refl, sym, _∙_}
 use native.Mathlib.Omega.{arith}
 use borrow.Author.Needs.{needs}
-use Rattle.gatekeeper.proofs.Laws.{reached}
+use Rattle.gatekeeper.proofs.Laws.{looked}
 use Rattle.gatekeeper.proofs.look.Statement.{statement}
 use Rattle.gatekeeper.proofs.look.Tie as tie
 
@@ -37,7 +37,7 @@ part-requires c κs = search needs
 returns-2 : tie.Need-returns-2
 returns-2 c =
     let accepted = sym (c .before .before .before .before .reach .ensures) ∙ c .before .before .enum-told .given .1 in
-    rw accepted (rw (c .before .stack-length .ensures, reached _ _ _ _ _ accepted) at (c .part .ensures))
+    looked _ _ _ _ _ _ (c .before .stack-length .ensures) accepted (c .part .ensures)
 
 pub look-spec : {M : Type 1} → statement M
 look-spec =

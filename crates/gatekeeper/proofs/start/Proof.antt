@@ -4,6 +4,7 @@ use borrow.Author.Needs.{needs}
 use Rattle.rules.specs.Step.{judgedStart, outcome, memoryAfter}
 use Rattle.rules.specs.Memory.{stackLength}
 use Rattle.rules.proofs.Memory.{then}
+use Rattle.returns.proofs.Laws.{kept}
 use Rattle.gatekeeper.proofs.start.Statement.{statement}
 use Rattle.gatekeeper.proofs.start.Tie as tie
 
@@ -14,7 +15,8 @@ judge-start-requires : tie.Need-judge-start-requires
 judge-start-requires c κs = search needs
 
 -- the verdict is the one on a start
-verdict : (c : tie.After-judge-start) → c .judge-start .result ≡ judgedStart 63 (stackLength (now (c .before .before .before .before .args .s))) (c .before .before .before .before .args .ring)
+verdict : (c : tie.After-judge-start)
+    → c .judge-start .result ≡ judgedStart 63 (stackLength (now (c .before .before .before .before .args .s))) (c .before .before .before .before .args .ring)
 verdict c = rw (c .before .stack-length .ensures) at (c .judge-start .ensures)
 
 enum-told : tie.Need-enum-told
@@ -31,10 +33,7 @@ same-length c = search needs
 
 returns : tie.Need-returns
 unfolding outcome memoryAfter
-returns c =
-    let told = c .before .enum-told2 .given .1 in
-    let refused = sym (verdict (c .before .before .before)) ∙ told in
-    (rw refused (rw told at (c .unchanged .ensures)), rw refused)
+returns c = kept _ _ _ _ _ _ (verdict (c .before .before .before)) (c .before .enum-told2 .given .1) (c .unchanged .ensures)
 
 clear-requires : tie.Need-clear-requires
 clear-requires c κs = search needs

@@ -4,6 +4,7 @@ use denote.Ref.{now}
 use borrow.Author.Needs.{needs}
 use Rattle.rules.specs.Step.{reachVerdict, outcome, memoryAfter}
 use Rattle.gatekeeper.specs.Entries.{state}
+use Rattle.returns.proofs.Laws.{kept}
 use Rattle.gatekeeper.proofs.write.Statement.{statement}
 use Rattle.gatekeeper.proofs.write.Tie as tie
 
@@ -34,10 +35,7 @@ same-length c = search needs
 
 returns : tie.Need-returns
 unfolding outcome memoryAfter
-returns c =
-    let told = c .before .enum-told2 .given .1 in
-    let refused = sym (verdict (c .before .before .before)) ∙ told in
-    (rw refused (rw told at (c .unchanged .ensures)), rw refused)
+returns c = kept _ _ _ _ _ _ (verdict (c .before .before .before)) (c .before .enum-told2 .given .1) (c .unchanged .ensures)
 
 store-word-requires : tie.Need-store-word-requires
 store-word-requires c κs = search needs

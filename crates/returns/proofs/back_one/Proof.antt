@@ -1,6 +1,8 @@
+use mathlib.Core.Bool.{true, false}
 use mathlib.Core.Path.{_≡_}
 use Prim.Native.Nat.{_-_, _≤_}
 use native.Mathlib.Nat.{le-antisymm}
+use lib.Dec.{leb}
 use lib.ListN.{take, drop}
 use borrow.Author.Tests.{le-leb, lt-leb}
 use borrow.Author.Needs.{needs}
@@ -20,7 +22,9 @@ abbrev μ-loop : tie.MeasureT-loop
 
 returns : tie.Need-returns Inv-loop μ-loop
 unfolding backOne apply
-returns c = rw (lt-leb _ _ (c .if1 .taken))
+returns c =
+    let input : leb 2 (c .before .before .before .args .a .direction) ≡ false = lt-leb _ _ (c .if1 .taken) in
+    rw input
 
 loop-holds : tie.Need-loop-holds Inv-loop μ-loop
 loop-holds c = (search needs, none _ _ _ _)
@@ -62,7 +66,8 @@ returns-2 : tie.Need-returns-2 Inv-loop μ-loop
 unfolding backOne
 returns-2 c =
     let ended = le-antisymm (c .before .before .loop .inv .0) (c .if2 .left) in
-    rw (le-leb _ _ (c .before .before .before .if1 .left), ← ended) (c .before .before .loop .inv .1)
+    let output : leb 2 (c .before .before .before .before .before .before .args .a .direction) ≡ true = le-leb _ _ (c .before .before .before .if1 .left) in
+    rw (output, ← ended) (c .before .before .loop .inv .1)
 
 pub back-one-spec : {M : Type 1} → statement M
 back-one-spec =

@@ -2,7 +2,7 @@ use mathlib.Core.Path.{_≡_, sym, _∙_}
 use denote.Ref.{now}
 use borrow.Author.Needs.{needs}
 use Rattle.rules.specs.Return.{returnVerdict}
-use Rattle.returns.proofs.Laws.{judges, ready}
+use Rattle.returns.proofs.Laws.{kept, judges, ready}
 use Rattle.returns.proofs.give_back.Statement.{statement}
 use Rattle.returns.proofs.give_back.Tie as tie
 
@@ -43,10 +43,7 @@ same-length : tie.Need-same-length
 same-length c = search needs
 
 returns : tie.Need-returns
-returns c =
-    let told = c .before .enum-told2 .given .1 in
-    let refused = sym (verdict (c .before .before .before)) ∙ told in
-    (rw refused (rw told at (c .unchanged .ensures)), rw refused)
+returns c = kept _ _ _ _ _ _ (verdict (c .before .before .before)) (c .before .enum-told2 .given .1) (c .unchanged .ensures)
 
 set-back-requires : tie.Need-set-back-requires
 set-back-requires c κs =
