@@ -1,5 +1,4 @@
 use native.Mathlib.Omega.{arith}
-use mathlib.Core.Path.{_≡_, sym, _∙_}
 use Rattle.calls.proofs.Built.{no-refusal, ready-to, built}
 use borrow.Author.Needs.{needs}
 use Rattle.calls.proofs.build.Statement.{statement}

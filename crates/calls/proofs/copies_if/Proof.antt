@@ -1,7 +1,4 @@
 use borrow.Author.Needs.{needs}
-use native.Mathlib.Omega.{arith}
-use Prim.Native.Nat.{_≤_}
-use mathlib.Core.Path.{_≡_, sym}
 use Rattle.calls.proofs.copies_if.Statement.{statement}
 use Rattle.calls.proofs.copies_if.Tie as tie
 

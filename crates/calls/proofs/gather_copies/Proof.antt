@@ -1,9 +1,9 @@
 use borrow.Author.Needs.{needs}
 use lib.ListN.{length, take, getD}
 use native.Mathlib.Omega.{arith}
-use native.Mathlib.Nat.{le-antisymm, add-zero}
-use Prim.Native.Nat.{_+_, _-_, _≤_, _<_}
-use mathlib.Core.Path.{_≡_, refl, sym, ap, _∙_}
+use native.Mathlib.Nat.{le-antisymm}
+use Prim.Native.Nat.{_-_, _≤_, _<_}
+use mathlib.Core.Path.{_≡_, refl}
 use Rattle.rules.specs.Arguments.{wordsIn, copiesOf}
 use Rattle.rules.specs.Record.{zeroArgument}
 use Rattle.calls.proofs.Laws.{words-turn, copies-turn, next-fits}

@@ -2,9 +2,9 @@ use Rattle.calls.proofs.Laws.{next-fits}
 use borrow.Author.Needs.{needs}
 use lib.ListN.{length, take}
 use native.Mathlib.Omega.{arith}
-use native.Mathlib.Nat.{le-antisymm, add-zero}
+use native.Mathlib.Nat.{le-antisymm}
 use Prim.Native.Nat.{_+_, _-_, _≤_, _<_}
-use mathlib.Core.Path.{_≡_, refl, sym, ap, _∙_}
+use mathlib.Core.Path.{_≡_, refl}
 use Rattle.rules.proofs.Memory.{same-long}
 use Rattle.rules.specs.Arguments.{wordsIn, pointing}
 use Rattle.rules.specs.Memory.{puts, apply}

@@ -3,8 +3,8 @@ use lib.ListN.{length, take}
 use native.Mathlib.Omega.{arith}
 use native.Mathlib.Nat.{le-antisymm, add-zero}
 use Prim.Native.Nat.{_+_, _-_, _≤_, _<_}
-use mathlib.Core.List.{_++_, [], append-nil}
-use mathlib.Core.Path.{_≡_, refl, sym, ap, _∙_}
+use mathlib.Core.List.{_++_, append-nil}
+use mathlib.Core.Path.{_≡_}
 use Rattle.calls.proofs.Laws.{into-turn}
 use Rattle.calls.proofs.put_into.Statement.{statement}
 use Rattle.calls.proofs.put_into.Tie as tie

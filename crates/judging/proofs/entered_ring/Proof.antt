@@ -1,22 +1,16 @@
 use borrow.Author.Needs.{needs}
 use Rattle.judging.proofs.entered_ring.Statement.{statement}
 use Rattle.judging.proofs.entered_ring.Tie as tie
-use Rattle.judging.proofs.entered_ring.Reads as reads
-use Rattle.judging.proofs.entered_ring.Lts as lts
 
--- src/lib.rt:48:25
 enum-known-d : tie.Need-enum-known-d
 enum-known-d c = search needs
 
--- src/lib.rt:49:32
 enum-told : tie.Need-enum-told
 enum-told c = search needs
 
--- src/lib.rt:44:1
 returns : tie.Need-returns
 returns c = search needs
 
--- src/lib.rt:44:1
 returns-2 : tie.Need-returns-2
 returns-2 c = rw (c .enum-told .given .1)
 

@@ -1,14 +1,10 @@
 use borrow.Author.Tests.{lt-ltb, le-ltb}
 use Rattle.judging.proofs.fault_back.Statement.{statement}
 use Rattle.judging.proofs.fault_back.Tie as tie
-use Rattle.judging.proofs.fault_back.Reads as reads
-use Rattle.judging.proofs.fault_back.Lts as lts
 
--- src/lib.rt:205:1
 returns : tie.Need-returns
 returns c = rw (lt-ltb _ _ (c .if1 .taken))
 
--- src/lib.rt:205:1
 returns-2 : tie.Need-returns-2
 returns-2 c = rw (le-ltb _ _ (c .if1 .left))
 

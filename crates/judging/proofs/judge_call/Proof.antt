@@ -2,84 +2,58 @@ use Rattle.rules.specs.Call.{judged}
 use borrow.Author.Needs.{needs}
 use Rattle.judging.proofs.judge_call.Statement.{statement}
 use Rattle.judging.proofs.judge_call.Tie as tie
-use Rattle.judging.proofs.judge_call.Reads as reads
-use Rattle.judging.proofs.judge_call.Lts as lts
-use Rattle.judging.proofs.is_asked.Reads as is-asked-reads
-use Rattle.judging.proofs.is_refusal.Reads as is-refusal-reads
-use Rattle.judging.proofs.passes.Reads as passes-reads
-use Rattle.judging.proofs.reason_why.Reads as reason-why-reads
-use Rattle.judging.proofs.refuse_if.Reads as refuse-if-reads
-use Rattle.words.proofs.is_placed.Reads as is-placed-reads
 
--- src/lib.rt:162:52
 passes-requires : tie.Need-passes-requires
 passes-requires c κs = search needs
 
--- src/lib.rt:162:42
 refuse-if-requires : tie.Need-refuse-if-requires
 refuse-if-requires c κs = search needs
 
--- src/lib.rt:162:9
 refuse-if-requires-2 : tie.Need-refuse-if-requires-2
 refuse-if-requires-2 c κs = search needs
 
--- src/lib.rt:164:9
 is-refusal-requires : tie.Need-is-refusal-requires
 is-refusal-requires c κs = search needs
 
--- src/lib.rt:166:9
 reason-why-requires : tie.Need-reason-why-requires
 reason-why-requires c κs = search needs
 
--- src/lib.rt:167:9
 refuse-if-requires-3 : tie.Need-refuse-if-requires-3
 refuse-if-requires-3 c κs = search needs
 
--- src/lib.rt:163:9
 refuse-if-requires-4 : tie.Need-refuse-if-requires-4
 refuse-if-requires-4 c κs = search needs
 
--- src/lib.rt:173:9
 refuse-if-requires-5 : tie.Need-refuse-if-requires-5
 refuse-if-requires-5 c κs = search needs
 
--- src/lib.rt:169:9
 refuse-if-requires-6 : tie.Need-refuse-if-requires-6
 refuse-if-requires-6 c κs = search needs
 
--- src/lib.rt:177:10
 is-placed-requires : tie.Need-is-placed-requires
 is-placed-requires c κs = search needs
 
--- src/lib.rt:180:9
 refuse-if-requires-7 : tie.Need-refuse-if-requires-7
 refuse-if-requires-7 c κs = search needs
 
--- src/lib.rt:176:9
 refuse-if-requires-8 : tie.Need-refuse-if-requires-8
 refuse-if-requires-8 c κs = search needs
 
--- src/lib.rt:182:53
 is-asked-requires : tie.Need-is-asked-requires
 is-asked-requires c κs = search needs
 
--- src/lib.rt:182:42
 refuse-if-requires-9 : tie.Need-refuse-if-requires-9
 refuse-if-requires-9 c κs = search needs
 
--- src/lib.rt:182:9
 refuse-if-requires-10 : tie.Need-refuse-if-requires-10
 refuse-if-requires-10 c κs = search needs
 
--- src/lib.rt:183:33
 refuse-if-requires-11 : tie.Need-refuse-if-requires-11
 refuse-if-requires-11 c κs = search needs
 
--- src/lib.rt:183:5
 refuse-if-requires-12 : tie.Need-refuse-if-requires-12
 refuse-if-requires-12 c κs = search needs
 
--- src/lib.rt:150:1
 returns : tie.Need-returns
 unfolding judged
 returns c = rw (c .refuse-if12 .ensures, c .before .refuse-if11 .ensures, c .before .before .before .refuse-if10 .ensures, c .before .before .before .before .refuse-if9 .ensures, c .before .before .before .before .before .is-asked .ensures, c .before .before .before .before .before .before .refuse-if8 .ensures, c .before .before .before .before .before .before .before .refuse-if7 .ensures, c .before .before .before .before .before .before .before .before .is-placed .ensures, c .before .before .before .before .before .before .before .before .before .before .before .before .before .refuse-if6 .ensures, c .before .before .before .before .before .before .before .before .before .before .before .before .before .before .refuse-if5 .ensures, c .before .before .before .before .before .before .before .before .before .before .before .before .before .before .before .before .before .refuse-if4 .ensures, c .before .before .before .before .before .before .before .before .before .before .before .before .before .before .before .before .before .before .refuse-if3 .ensures, c .before .before .before .before .before .before .before .before .before .before .before .before .before .before .before .before .before .before .before .reason-why .ensures, c .before .before .before .before .before .before .before .before .before .before .before .before .before .before .before .before .before .before .before .before .is-refusal .ensures, c .before .before .before .before .before .before .before .before .before .before .before .before .before .before .before .before .before .before .before .before .before .refuse-if2 .ensures, c .before .before .before .before .before .before .before .before .before .before .before .before .before .before .before .before .before .before .before .before .before .before .refuse-if .ensures, c .before .before .before .before .before .before .before .before .before .before .before .before .before .before .before .before .before .before .before .before .before .before .before .passes .ensures)

@@ -2,31 +2,22 @@ use Rattle.rules.specs.Step.{judgedReach}
 use borrow.Author.Needs.{needs}
 use Rattle.judging.proofs.judge_reach.Statement.{statement}
 use Rattle.judging.proofs.judge_reach.Tie as tie
-use Rattle.judging.proofs.judge_reach.Reads as reads
-use Rattle.judging.proofs.judge_reach.Lts as lts
-use Rattle.judging.proofs.refuse_if.Reads as refuse-if-reads
 
--- src/lib.rt:235:55
 add-outside : tie.Need-add-outside
 add-outside c = search needs
 
--- src/lib.rt:236:9
 refuse-if-requires : tie.Need-refuse-if-requires
 refuse-if-requires c κs = search needs
 
--- src/lib.rt:237:42
 refuse-if-requires-2 : tie.Need-refuse-if-requires-2
 refuse-if-requires-2 c κs = search needs
 
--- src/lib.rt:237:9
 refuse-if-requires-3 : tie.Need-refuse-if-requires-3
 refuse-if-requires-3 c κs = search needs
 
--- src/lib.rt:238:5
 refuse-if-requires-4 : tie.Need-refuse-if-requires-4
 refuse-if-requires-4 c κs = search needs
 
--- src/lib.rt:224:1
 returns : tie.Need-returns
 unfolding judgedReach
 returns c = rw (c .refuse-if4 .ensures, c .before .refuse-if3 .ensures, c .before .before .refuse-if2 .ensures, c .before .before .before .refuse-if .ensures)

@@ -1,15 +1,11 @@
 use Rattle.rules.specs.Tests.{refuseIf}
 use Rattle.judging.proofs.refuse_if.Statement.{statement}
 use Rattle.judging.proofs.refuse_if.Tie as tie
-use Rattle.judging.proofs.refuse_if.Reads as reads
-use Rattle.judging.proofs.refuse_if.Lts as lts
 
--- src/lib.rt:121:1
 returns : tie.Need-returns
 unfolding refuseIf
 returns c = rw (c .if1 .taken)
 
--- src/lib.rt:121:1
 returns-2 : tie.Need-returns-2
 unfolding refuseIf
 returns-2 c = rw (c .if1 .left)

@@ -1,10 +1,7 @@
 use Rattle.rules.specs.Record.{argumentIsZero}
 use Rattle.record.proofs.argument_is_zero.Statement.{statement}
 use Rattle.record.proofs.argument_is_zero.Tie as tie
-use Rattle.record.proofs.argument_is_zero.Reads as reads
-use Rattle.record.proofs.argument_is_zero.Lts as lts
 
--- src/lib.rt:41:1
 returns : tie.Need-returns
 unfolding argumentIsZero
 returns c = cc

@@ -2,22 +2,16 @@ use Rattle.rules.specs.Record.{argumentSound}
 use borrow.Author.Needs.{needs}
 use Rattle.record.proofs.argument_sound.Statement.{statement}
 use Rattle.record.proofs.argument_sound.Tie as tie
-use Rattle.record.proofs.argument_sound.Reads as reads
-use Rattle.record.proofs.argument_sound.Lts as lts
 
--- src/lib.rt:36:12
 cast-result : tie.Need-cast-result
 cast-result c = search needs
 
--- src/lib.rt:36:30
 cast-result-2 : tie.Need-cast-result-2
 cast-result-2 c = search needs
 
--- src/lib.rt:36:12
 add-result : tie.Need-add-result
 add-result c = search needs
 
--- src/lib.rt:29:1
 returns : tie.Need-returns
 unfolding argumentSound
 returns c = cc

@@ -3,43 +3,31 @@ use Rattle.rules.specs.Record.{argumentsSound}
 use borrow.Author.Needs.{needs}
 use Rattle.record.proofs.arguments_sound.Statement.{statement}
 use Rattle.record.proofs.arguments_sound.Tie as tie
-use Rattle.record.proofs.arguments_sound.Reads as reads
-use Rattle.record.proofs.arguments_sound.Lts as lts
-use Rattle.record.proofs.argument_rule.Reads as argument-rule-reads
 
--- src/lib.rt:57:44
 element-copy-out-argument-rule : tie.Need-element-copy-out-argument-rule
 element-copy-out-argument-rule c = search needs
 
--- src/lib.rt:57:5
 argument-rule-requires : tie.Need-argument-rule-requires
 argument-rule-requires c κs = search needs
 
--- src/lib.rt:58:50
 element-copy-out-argument-rule-2 : tie.Need-element-copy-out-argument-rule-2
 element-copy-out-argument-rule-2 c = search needs
 
--- src/lib.rt:58:11
 argument-rule-requires-2 : tie.Need-argument-rule-requires-2
 argument-rule-requires-2 c κs = search needs
 
--- src/lib.rt:59:50
 element-copy-out-argument-rule-3 : tie.Need-element-copy-out-argument-rule-3
 element-copy-out-argument-rule-3 c = search needs
 
--- src/lib.rt:59:11
 argument-rule-requires-3 : tie.Need-argument-rule-requires-3
 argument-rule-requires-3 c κs = search needs
 
--- src/lib.rt:60:50
 element-copy-out-argument-rule-4 : tie.Need-element-copy-out-argument-rule-4
 element-copy-out-argument-rule-4 c = search needs
 
--- src/lib.rt:60:11
 argument-rule-requires-4 : tie.Need-argument-rule-requires-4
 argument-rule-requires-4 c κs = search needs
 
--- src/lib.rt:54:1
 returns : tie.Need-returns
 unfolding argumentsSound allBelow
 returns c = rw (c .argument-rule4 .ensures, c .before .before .before .argument-rule3 .ensures, c .before .before .before .before .before .before .argument-rule2 .ensures, c .before .before .before .before .before .before .before .before .before .argument-rule .ensures)

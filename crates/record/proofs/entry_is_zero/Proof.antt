@@ -2,43 +2,31 @@ use Rattle.rules.specs.Record.{entryIsZero}
 use borrow.Author.Needs.{needs}
 use Rattle.record.proofs.entry_is_zero.Statement.{statement}
 use Rattle.record.proofs.entry_is_zero.Tie as tie
-use Rattle.record.proofs.entry_is_zero.Reads as reads
-use Rattle.record.proofs.entry_is_zero.Lts as lts
-use Rattle.record.proofs.argument_is_zero.Reads as argument-is-zero-reads
 
--- src/lib.rt:126:28
 element-copy-out-argument-is-zero : tie.Need-element-copy-out-argument-is-zero
 element-copy-out-argument-is-zero c = search needs
 
--- src/lib.rt:126:11
 argument-is-zero-requires : tie.Need-argument-is-zero-requires
 argument-is-zero-requires c κs = search needs
 
--- src/lib.rt:127:28
 element-copy-out-argument-is-zero-2 : tie.Need-element-copy-out-argument-is-zero-2
 element-copy-out-argument-is-zero-2 c = search needs
 
--- src/lib.rt:127:11
 argument-is-zero-requires-2 : tie.Need-argument-is-zero-requires-2
 argument-is-zero-requires-2 c κs = search needs
 
--- src/lib.rt:128:28
 element-copy-out-argument-is-zero-3 : tie.Need-element-copy-out-argument-is-zero-3
 element-copy-out-argument-is-zero-3 c = search needs
 
--- src/lib.rt:128:11
 argument-is-zero-requires-3 : tie.Need-argument-is-zero-requires-3
 argument-is-zero-requires-3 c κs = search needs
 
--- src/lib.rt:129:28
 element-copy-out-argument-is-zero-4 : tie.Need-element-copy-out-argument-is-zero-4
 element-copy-out-argument-is-zero-4 c = search needs
 
--- src/lib.rt:129:11
 argument-is-zero-requires-4 : tie.Need-argument-is-zero-requires-4
 argument-is-zero-requires-4 c κs = search needs
 
--- src/lib.rt:113:1
 returns : tie.Need-returns
 unfolding entryIsZero
 returns c = cc

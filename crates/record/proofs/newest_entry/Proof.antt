@@ -5,45 +5,33 @@ use Rattle.rules.specs.Record.{newest}
 use borrow.Author.Needs.{needs}
 use Rattle.record.proofs.newest_entry.Statement.{statement}
 use Rattle.record.proofs.newest_entry.Tie as tie
-use Rattle.record.proofs.newest_entry.Reads as reads
-use Rattle.record.proofs.newest_entry.Lts as lts
-use Rattle.record.proofs.zero_entry.Reads as zero-entry-reads
 
--- src/lib.rt:218:9
 zero-entry-requires : tie.Need-zero-entry-requires
 zero-entry-requires c κs = search needs
 
--- src/lib.rt:218:9
 returns : tie.Need-returns
 unfolding newest
 returns c = let h : c .before .before .args .t1 .calls ≤ 0 = omega arith in rw (le-ltb 0 _ h) (c .zero-entry .ensures)
 
--- src/lib.rt:221:9
 zero-entry-requires-2 : tie.Need-zero-entry-requires-2
 zero-entry-requires-2 c κs = search needs
 
--- src/lib.rt:221:9
 returns-2 : tie.Need-returns-2
 unfolding newest
 returns-2 c = let h : 0 < c .before .before .before .args .t1 .calls = omega arith in rw (lt-ltb 0 _ h, lt-leb _ 32 (c .before .if2 .taken)) (c .zero-entry2 .ensures)
 
--- src/lib.rt:223:15
 sub-at : tie.Need-sub-at
 sub-at c = search needs
 
--- src/lib.rt:223:14
 cast-at : tie.Need-cast-at
 cast-at c = search needs
 
--- src/lib.rt:224:5
 mul-result : tie.Need-mul-result
 mul-result c = search needs
 
--- src/lib.rt:224:5
 element-copy-out-result : tie.Need-element-copy-out-result
 element-copy-out-result c = search needs
 
--- src/lib.rt:213:1
 returns-3 : tie.Need-returns-3
 unfolding newest
 returns-3 c = let h : 0 < c .before .before .before .args .t1 .calls = omega arith in rw (lt-ltb 0 _ h, le-leb _ 32 (c .before .if2 .left))

@@ -3,30 +3,20 @@ use Rattle.rules.specs.Record.{processSound}
 use borrow.Author.Needs.{needs}
 use Rattle.record.proofs.process_sound.Statement.{statement}
 use Rattle.record.proofs.process_sound.Tie as tie
-use Rattle.record.proofs.process_sound.Reads as reads
-use Rattle.record.proofs.process_sound.Lts as lts
-use Rattle.made.proofs.is_made.Reads as is-made-reads
-use Rattle.record.proofs.chain_sound.Reads as chain-sound-reads
-use Rattle.record.proofs.rest_zero.Reads as rest-zero-reads
 
--- src/lib.rt:177:9
 returns : tie.Need-returns
 unfolding processSound
 returns c = rw (lt-leb _ 32 (c .if1 .taken))
 
--- src/lib.rt:181:11
 is-made-requires : tie.Need-is-made-requires
 is-made-requires c κs = search needs
 
--- src/lib.rt:182:11
 chain-sound-requires : tie.Need-chain-sound-requires
 chain-sound-requires c κs = search needs
 
--- src/lib.rt:183:11
 rest-zero-requires : tie.Need-rest-zero-requires
 rest-zero-requires c κs = search needs
 
--- src/lib.rt:172:1
 returns-2 : tie.Need-returns-2
 unfolding processSound
 returns-2 c = rw (le-leb _ 32 (c .before .before .before .before .before .before .if1 .left), c .rest-zero .ensures, c .before .chain-sound .ensures, c .before .before .is-made .ensures)

@@ -1,15 +1,12 @@
 use Rattle.rules.specs.Tests.{allFrom}
 use Rattle.rules.specs.Record.{zeroAt}
 use Rattle.rules.proofs.Tests.{gather-more, gather-done}
-use mathlib.Core.Bool.{_&&_, true}
-use mathlib.Core.Path.{_≡_, refl, sym}
+use mathlib.Core.Bool.{_&&_}
+use mathlib.Core.Path.{_≡_, refl}
 use Prim.Native.Nat.{_≤_, _-_}
 use borrow.Author.Needs.{needs}
 use Rattle.record.proofs.rest_zero.Statement.{statement}
 use Rattle.record.proofs.rest_zero.Tie as tie
-use Rattle.record.proofs.rest_zero.Reads as reads
-use Rattle.record.proofs.rest_zero.Lts as lts
-use Rattle.record.proofs.entry_is_zero.Reads as entry-is-zero-reads
 
 abbrev Inv-loop : tie.InvT-loop
 Inv-loop calls entries ok₀ i₀ ok i = (i ≤ 32) × ((ok && allFrom (zeroAt entries) i (32 - i)) ≡ allFrom (zeroAt entries) calls (32 - calls))
@@ -17,35 +14,27 @@ Inv-loop calls entries ok₀ i₀ ok i = (i ≤ 32) × ((ok && allFrom (zeroAt e
 abbrev μ-loop : tie.MeasureT-loop
 μ-loop calls entries ok₀ i₀ ok i = 32 - i
 
--- src/lib.rt:163:5
 loop-holds : tie.Need-loop-holds Inv-loop μ-loop
 loop-holds c = (search needs, refl)
 
--- src/lib.rt:164:17
 mul-e : tie.Need-mul-e Inv-loop μ-loop
 mul-e c = search needs
 
--- src/lib.rt:164:17
 array-copy-out-e : tie.Need-array-copy-out-e Inv-loop μ-loop
 array-copy-out-e c = search needs
 
--- src/lib.rt:165:19
 entry-is-zero-requires : tie.Need-entry-is-zero-requires Inv-loop μ-loop
 entry-is-zero-requires c κs = search needs
 
--- src/lib.rt:166:9
 add-i : tie.Need-add-i Inv-loop μ-loop
 add-i c = search needs
 
--- src/lib.rt:163:5
 loop-less : tie.Need-loop-less Inv-loop μ-loop
 loop-less c = search needs
 
--- src/lib.rt:163:5
 loop-again : tie.Need-loop-again Inv-loop μ-loop
 loop-again c = (search needs, gather-more (zeroAt (c .before .before .before .before .args .t2)) 32 _ (c .before .before .before .loop .ok) _ _ (c .before .before .loop-test .taken) (c .entry-is-zero .ensures) (c .before .before .before .loop .inv .1))
 
--- src/lib.rt:157:1
 returns : tie.Need-returns Inv-loop μ-loop
 returns c = gather-done _ 32 _ _ _ (c .loop-test .left) (c .before .loop .inv .1)
 

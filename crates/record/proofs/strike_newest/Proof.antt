@@ -3,53 +3,39 @@ use Rattle.rules.specs.Record.{struck, newest}
 use borrow.Author.Needs.{needs}
 use Rattle.record.proofs.strike_newest.Statement.{statement}
 use Rattle.record.proofs.strike_newest.Tie as tie
-use Rattle.record.proofs.strike_newest.Reads as reads
-use Rattle.record.proofs.strike_newest.Lts as lts
-use Rattle.record.proofs.zero_entry.Reads as zero-entry-reads
 
--- src/lib.rt:248:23
 sub-at : tie.Need-sub-at
 sub-at c = search needs
 
--- src/lib.rt:248:22
 cast-at : tie.Need-cast-at
 cast-at c = search needs
 
--- src/lib.rt:249:21
 mul-e : tie.Need-mul-e
 mul-e c = search needs
 
--- src/lib.rt:249:21
 element-copy-out-e : tie.Need-element-copy-out-e
 element-copy-out-e c = search needs
 
--- src/lib.rt:250:17
 zero-entry-requires : tie.Need-zero-entry-requires
 zero-entry-requires c κs = search needs
 
--- src/lib.rt:251:13
 mul-zero : tie.Need-mul-zero
 mul-zero c = search needs
 
--- src/lib.rt:251:13
 element-set-from-zero : tie.Need-element-set-from-zero
 element-set-from-zero c = search needs
 
--- src/lib.rt:252:23
 sub-p : tie.Need-sub-p
 sub-p c = search needs
 
--- src/lib.rt:242:1
 returns : tie.Need-returns
 unfolding struck newest
 returns c = rw (lt-ltb _ _ (c .before .before .before .before .if1 .taken), le-leb _ _ (c .before .before .before .if2 .taken), c .before .zero-entry .ensures)
 
--- src/lib.rt:242:1
 returns-2 : tie.Need-returns-2
 unfolding struck newest
 returns-2 c = rw (lt-ltb _ _ (c .before .if1 .taken), lt-leb _ _ (c .if2 .left))
 
--- src/lib.rt:242:1
 returns-3 : tie.Need-returns-3
 unfolding struck newest
 returns-3 c = rw (le-ltb _ _ (c .if1 .left))

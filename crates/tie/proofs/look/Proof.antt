@@ -1,5 +1,5 @@
 use denote.Ref.{now}
-use Rattle.rules.specs.Step.{outcome, memoryAfter, reachVerdict}
+use Rattle.rules.specs.Step.{outcome, reachVerdict}
 use Rattle.tie.proofs.Laws.{extended, look-keeps}
 use borrow.Author.Needs.{needs}
 use Rattle.tie.proofs.look.Statement.{statement}
