@@ -45,7 +45,7 @@ refuse-if-requires-7 c κs = search needs
 
 returns : tie.Need-returns
 unfolding decisionOf
-returns c = cc
+returns c = rw (c .refuse-if7 .ensures, c .before .refuse-if6 .ensures, c .before .before .refuse-if5 .ensures, c .before .before .before .refuse-if4 .ensures, c .before .before .before .before .refuse-if3 .ensures, c .before .before .before .before .before .refuse-if2 .ensures, c .before .before .before .before .before .before .refuse-if .ensures, c .before .before .before .before .before .before .before .aimed .ensures, c .before .before .before .before .before .before .before .before .before .fault-of .ensures, c .before .before .before .before .before .before .before .before .before .before .stays .ensures, c .before .before .before .before .before .before .before .before .before .before .before .never .ensures, c .before .before .before .before .before .before .before .before .before .before .before .before .executes .ensures, c .before .before .before .before .before .before .before .before .before .before .before .before .before .goes-out .ensures)
 
 pub decide-spec : {M : Type 1} → statement M
 decide-spec =
