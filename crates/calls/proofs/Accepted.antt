@@ -12,12 +12,12 @@ use Rattle.rules.specs.declared.Seen.{Seen}
 use Rattle.rules.specs.declared.Answer.{Answer}
 use Rattle.rules.specs.declared.Outcome.{Outcome}
 use Rattle.rules.specs.declared.Verdict.{Verdict}
-use Rattle.rules.specs.declared.Verdict.the-variants.{Accepted, Refused}
+use Rattle.rules.specs.declared.Verdict.the-variants.{Accepted}
 use Rattle.rules.specs.Memory.{apply, stackLength}
 use Rattle.rules.specs.Segments.{fileSound}
 use Rattle.rules.specs.Record.{processSound, added}
 use Rattle.rules.specs.Arguments.{handedOf}
-use Rattle.rules.specs.Answer.{places, outcomeBy, memoryBy}
+use Rattle.rules.specs.Answer.{outcomeBy, memoryBy}
 use Rattle.rules.specs.Call.{goesOutward, entered, decision, handed, seen, judged, callVerdict, callStores, callEntry, callNext, callAnswer}
 use Rattle.rules.proofs.Called.{called, copied-words}
 use Rattle.calls.specs.Ready.{Ready}
@@ -55,12 +55,6 @@ module _ (f m : List ℕ) (p : Process) (q : Request) where
         out = copied-words 63 f m p q c;
         inward = no-words;
       }
-
-  -- refused: the record, the zeros and the store as they were
-  pub refused-is : (w : Verdict) (n reason : ℕ) (next : Process) (given : Answer) (after : List ℕ) (r : Outcome)
-      → w ≡ Refused n reason → w ≡ callVerdict 63 f m p q → r ≡ outcomeBy w p p (places 0 0 0 0)
-      → (r ≡ outcomeBy (callVerdict 63 f m p q) p next given) × (m ≡ memoryBy (callVerdict 63 f m p q) m after)
-  refused-is w n reason next given after r e v o = (rw (← v, e) (rw e at o), rw (← v, e))
 
   -- accepted: the record with the entry added, the places, and the stores
   pub accepted-is : (v : Seen) (w : Verdict) (e : Entry) (to : Ring) (after : Process) (given : Answer) (t : List ℕ)

@@ -12,7 +12,7 @@ use Rattle.rules.specs.Memory.{spot, words, Store, puts, apply}
 use Rattle.rules.specs.Record.{zeroArgument}
 use Rattle.rules.specs.Arguments.{wordsIn, copiesOf, pointing}
 use Rattle.rules.proofs.Memory.{length-words, puts-append, then, two}
-use Rattle.rules.proofs.Arguments.{length-pointing}
+use Rattle.rules.proofs.Arguments.{length-pointing, words-turn}
 
 -- one word more of b is put into a
 pub into-turn : (k i : ℕ) (c a b : List ℕ) → k + i < length c → i < length b → take (k + i) c ≡ take k a ++ take i b
@@ -20,10 +20,6 @@ pub into-turn : (k i : ℕ) (c a b : List ℕ) → k + i < length c → i < leng
 into-turn k i c a b lc lb inv = rw (add-one, add-suc, take-suc-set, inv, take-suc b i 0, append-assoc)
 
 -- ---- one argument more
-
-pub words-more : (rest : List Argument) (a : Argument) → wordsIn (rest ++ (a ∷ [])) ≡ wordsIn rest + a .length
-words-more [] a = omega arith
-words-more (b ∷ rest) a = rw (words-more rest a, ← add-assoc)
 
 copies-more : (m : List ℕ) (L k : ℕ) (rest : List Argument) (a : Argument)
     → copiesOf m L k (rest ++ (a ∷ [])) ≡ copiesOf m L k rest ++ words m (spot L k (a .offset)) (a .length)
@@ -38,10 +34,6 @@ pointing-more k at [] a = rw add-zero
 pointing-more k at (b ∷ rest) a = rw (pointing-more k (at + b .length) rest a, add-assoc)
 
 module _ (l : List Argument) (i : ℕ) (h : i < length l) where
-  -- the words of the first i + 1 arguments
-  pub words-turn : wordsIn (take (i + 1) l) ≡ wordsIn (take i l) + getD l i zeroArgument .length
-  words-turn = rw (add-one, take-suc l i zeroArgument, words-more)
-
   -- the gathered copies: the next argument's words come after those of the first i
   pub copies-turn : (m : List ℕ) (L k : ℕ) (a b c : List ℕ) → getD l i zeroArgument .length ≤ 64
       → take (wordsIn (take i l)) a ≡ copiesOf m L k (take i l)
@@ -53,7 +45,7 @@ module _ (l : List Argument) (i : ℕ) (h : i < length l) where
       let p = spot L k (getD l i zeroArgument .offset) in
       let q : min n 64 ≡ n = omega arith in
       let t : take n b ≡ words m p n = rw (eb, q) (take-at (words m p n) (replicate (64 - n) 0) n (length-words m p n)) in
-      rw (words-turn, ec, inv, t, add-one, take-suc l i zeroArgument, copies-more)
+      rw (words-turn l i zeroArgument h, ec, inv, t, add-one, take-suc l i zeroArgument, copies-more)
 
   -- the list: one group more is stored after the first i
   pub point-turn : (L k list copies at : ℕ) (m s t u : List ℕ) → at ≡ copies + wordsIn (take i l)
@@ -78,7 +70,7 @@ words-le (a ∷ l) (suc i) (suc n) h = omega (arith, words-le l i n (omega arith
 words-le l (suc i) zero h = absurd (not-suc-le-zero h)
 
 pub next-fits : (l : List Argument) (i n : ℕ) → i < length l → i < n → wordsIn (take i l) + getD l i zeroArgument .length ≤ wordsIn (take n l)
-next-fits l i n h less = rw (← words-turn l i h) (words-le l (i + 1) n (omega arith))
+next-fits l i n h less = rw (← words-turn l i zeroArgument h) (words-le l (i + 1) n (omega arith))
 
 -- a word, and the words after it
 pub headed : (L k at next v : ℕ) (vs m s t : List ℕ) → next ≡ suc at → s ≡ apply L (puts k at (v ∷ [])) m → t ≡ apply L (puts k next vs) s

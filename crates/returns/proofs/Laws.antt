@@ -1,4 +1,4 @@
--- Laws of a refusal, of the copies that go back, and of what an accepted return may rely on. Assumes nothing.
+-- Laws of the copies that go back, and of what an accepted return may rely on. Assumes nothing.
 use mathlib.Core.Path.{_≡_, refl, sym, _∙_}
 use mathlib.Core.Bool.{Bool, true, false}
 use mathlib.Core.List.{List, [], _∷_, _++_, append-assoc, append-nil}
@@ -16,26 +16,18 @@ use Rattle.rules.specs.declared.Entry.{Entry}
 use Rattle.rules.specs.declared.Process.{Process}
 use Rattle.rules.specs.declared.Request.{Request}
 use Rattle.rules.specs.declared.Verdict.{Verdict}
-use Rattle.rules.specs.declared.Verdict.the-variants.{Accepted, Refused}
-use Rattle.rules.specs.declared.Answer.{Answer}
-use Rattle.rules.specs.declared.Outcome.{Outcome}
+use Rattle.rules.specs.declared.Verdict.the-variants.{Accepted}
 use Rattle.rules.specs.Tests.{pick}
 use Rattle.rules.specs.Memory.{spot, word, upTo, words, puts, apply, stackLength}
 use Rattle.rules.specs.Segments.{fileSound}
 use Rattle.rules.specs.Record.{lengths, inwardSound, outwardSound, processSound, newest}
 use Rattle.rules.specs.Arguments.{wordsIn}
-use Rattle.rules.specs.Answer.{places, memoryBy, outcomeBy}
 use Rattle.rules.specs.Return.{backStores, judgedBack, returnVerdict, returnStores}
 use Rattle.rules.proofs.Tests.{and-l, and-r}
 use Rattle.rules.proofs.Memory.{length-told, puts-append, then, length-words, words-get}
 use Rattle.rules.proofs.Record.{newest-open, Held, held, lent}
 use Rattle.rules.proofs.Verdicts.{JudgedBack, return-facts}
 use Rattle.returns.specs.Back.{backOne, backFrom, Short, Ready}
-
--- "Every refusal changes nothing and gives zeros as places."
-pub kept : {v w : Verdict} {n reason : ℕ} (r : Outcome) (p next : Process) (given : Answer) (m after : List ℕ) → v ≡ w → v ≡ Refused n reason
-    → r ≡ outcomeBy v p p (places 0 0 0 0) → (r ≡ outcomeBy w p next given) × (m ≡ memoryBy w m after)
-kept r p next given m after same told out = let refused = sym same ∙ told in (rw refused (rw told at out), rw refused)
 
 -- ---- the loop that stores the words of an array one by one, from a word on
 
@@ -48,10 +40,6 @@ word-turn L k at from i a m s t l inv new =
 
 -- ---- the loop that goes through the arguments
 
-words-more : (rest : List Argument) (a : Argument) → wordsIn (rest ++ (a ∷ [])) ≡ wordsIn rest + a .length
-words-more [] a = omega arith
-words-more (b ∷ rest) a = rw (words-more rest a, ← add-assoc)
-
 back-more : (copies : List ℕ) (old from : ℕ) (rest : List Argument) (a : Argument)
     → backFrom copies old from (rest ++ (a ∷ [])) ≡ backFrom copies old from rest ++ backOne copies old (from + wordsIn rest) a
 unfolding backFrom
@@ -59,9 +47,6 @@ back-more copies old from [] a = rw (append-nil, add-zero)
 back-more copies old from (b ∷ rest) a = rw (back-more copies old (from + b .length) rest a, append-assoc, add-assoc)
 
 module _ (l : List Argument) (i : ℕ) (d : Argument) (h : i < length l) where
-  pub words-turn : wordsIn (take (i + 1) l) ≡ wordsIn (take i l) + getD l i d .length
-  words-turn = rw (add-one, take-suc l i d, words-more)
-
   pub back-turn : (L old from : ℕ) (copies m s t : List ℕ) → from ≡ wordsIn (take i l) → s ≡ apply L (backFrom copies old 0 (take i l)) m
       → t ≡ apply L (backOne copies old from (getD l i d)) s → t ≡ apply L (backFrom copies old 0 (take (i + 1) l)) m
   back-turn L old from copies m s t size inv new =

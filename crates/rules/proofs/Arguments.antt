@@ -4,10 +4,12 @@ use mathlib.Core.Path.{_≡_, refl, sym, ap, _∙_}
 use mathlib.Core.Bool.{Bool, true, false, _&&_, _||_, not}
 use mathlib.Core.List.{List, [], _∷_, _++_}
 use Prim.Native.Nat.{ℕ, zero, suc, _+_, _*_, _<_, _≤_}
-use native.Mathlib.Nat.{not-suc-le-zero}
+use native.Mathlib.Numerals.{add-one}
+use native.Mathlib.Nat.{not-suc-le-zero, add-assoc}
 use native.Mathlib.Omega.{arith}
 use lib.Dec.{leb, ltb, eqb}
 use lib.ListN.{length, take, getD, length-append}
+use lib.Seq.{take-suc}
 use borrow.Author.Tests.{leb-true, ltb-false, eqb-true, eqb-false, not-false, lt-ltb}
 use Rattle.rules.specs.declared.Ring.{Ring}
 use Rattle.rules.specs.declared.Argument.{Argument}
@@ -107,3 +109,13 @@ pub length-pointing : (k at : ℕ) (xs : List Argument) → length (pointing k a
 unfolding pointing
 length-pointing k at [] = refl
 length-pointing k at (a ∷ rest) = rw (length-pointing k (at + a .length) rest) (omega arith)
+
+-- ---- one argument more
+
+pub words-more : (rest : List Argument) (a : Argument) → wordsIn (rest ++ (a ∷ [])) ≡ wordsIn rest + a .length
+words-more [] a = omega arith
+words-more (b ∷ rest) a = rw (words-more rest a, ← add-assoc)
+
+-- the words of the first i + 1 arguments, in a loop over them
+pub words-turn : (l : List Argument) (i : ℕ) (d : Argument) → i < length l → wordsIn (take (i + 1) l) ≡ wordsIn (take i l) + getD l i d .length
+words-turn l i d h = rw (add-one, take-suc l i d, words-more)

@@ -1,7 +1,8 @@
+use Rattle.rules.proofs.Refusals.{kept}
 use denote.Ref.{now}
 use native.Mathlib.Omega.{arith}
 use mathlib.Core.Path.{sym, _∙_}
-use Rattle.calls.proofs.Accepted.{verdict-is, ready, refused-is, accepted-is}
+use Rattle.calls.proofs.Accepted.{verdict-is, ready, accepted-is}
 use borrow.Author.Needs.{needs}
 use Rattle.calls.proofs.call.Statement.{statement}
 use Rattle.calls.proofs.call.Tie as tie
@@ -31,7 +32,7 @@ same-length : tie.Need-same-length
 same-length c = search needs
 
 returns : tie.Need-returns
-returns c = let a = c .before .before .before .before .before .before .before .before .before .before .args in let w = verdict-is (now (a .file)) (now (a .s)) (a .p) (a .q) _ _ _ _ (c .before .before .before .before .before .before .survey .ensures) (c .before .before .before .before .before .file-sound .ensures) (c .before .before .before .before .process-sound .ensures) (c .before .before .before .judge-call .ensures) in refused-is (now (a .file)) (now (a .s)) (a .p) (a .q) _ _ _ _ _ _ _ (c .before .enum-told2 .given .1) w (c .unchanged .ensures)
+returns c = let a = c .before .before .before .before .before .before .before .before .before .before .args in let w = verdict-is (now (a .file)) (now (a .s)) (a .p) (a .q) _ _ _ _ (c .before .before .before .before .before .before .survey .ensures) (c .before .before .before .before .before .file-sound .ensures) (c .before .before .before .before .process-sound .ensures) (c .before .before .before .judge-call .ensures) in kept _ _ _ _ _ _ w (c .before .enum-told2 .given .1) (c .unchanged .ensures)
 
 build-requires : tie.Need-build-requires
 build-requires c κs = let a = c .before .before .before .before .before .before .before .before .before .before .args in let w = verdict-is (now (a .file)) (now (a .s)) (a .p) (a .q) _ _ _ _ (c .before .before .before .before .before .before .survey .ensures) (c .before .before .before .before .before .file-sound .ensures) (c .before .before .before .before .process-sound .ensures) (c .before .before .before .judge-call .ensures) in rw (c .before .before .before .before .before .before .survey .ensures) (ready (now (a .file)) (now (a .s)) (a .p) (a .q) (sym w ∙ c .before .enum-told .given .1))

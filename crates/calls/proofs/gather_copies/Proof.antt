@@ -1,3 +1,4 @@
+use Rattle.rules.proofs.Arguments.{words-turn}
 use borrow.Author.Needs.{needs}
 use lib.ListN.{length, take, getD}
 use native.Mathlib.Omega.{arith}
@@ -6,7 +7,7 @@ use Prim.Native.Nat.{_-_, _≤_, _<_}
 use mathlib.Core.Path.{_≡_, refl}
 use Rattle.rules.specs.Arguments.{wordsIn, copiesOf}
 use Rattle.rules.specs.Record.{zeroArgument}
-use Rattle.calls.proofs.Laws.{words-turn, copies-turn, next-fits}
+use Rattle.calls.proofs.Laws.{copies-turn, next-fits}
 use Rattle.calls.proofs.gather_copies.Statement.{statement}
 use Rattle.calls.proofs.gather_copies.Tie as tie
 
@@ -51,7 +52,7 @@ loop-less : tie.Need-loop-less Inv-loop μ-loop
 loop-less c = search needs
 
 loop-again : tie.Need-loop-again Inv-loop μ-loop
-loop-again c = let a = c .before .before .before .before .before .before .before .before .args in let l = c .before .before .before .before .before .before .loop in let short : l .i < length (a .t4) = search needs in let few : getD (a .t4) (l .i) zeroArgument .length ≤ 64 = omega (arith, next-fits (a .t4) (l .i) (a .n) short (c .before .before .before .before .before .loop-test .taken), c .before .before .before .before .before .before .before .before .pre) in (omega arith, rw (words-turn (a .t4) (l .i) short) (omega arith), copies-turn (a .t4) (l .i) short _ _ _ _ (c .before .before .before .gather .result) _ few (l .inv .2) (c .before .before .before .gather .ensures) (rw (l .inv .1) at (c .before .put-into .ensures)))
+loop-again c = let a = c .before .before .before .before .before .before .before .before .args in let l = c .before .before .before .before .before .before .loop in let short : l .i < length (a .t4) = search needs in let few : getD (a .t4) (l .i) zeroArgument .length ≤ 64 = omega (arith, next-fits (a .t4) (l .i) (a .n) short (c .before .before .before .before .before .loop-test .taken), c .before .before .before .before .before .before .before .before .pre) in (omega arith, rw (words-turn (a .t4) (l .i) zeroArgument short) (omega arith), copies-turn (a .t4) (l .i) short _ _ _ _ (c .before .before .before .gather .result) _ few (l .inv .2) (c .before .before .before .gather .ensures) (rw (l .inv .1) at (c .before .put-into .ensures)))
 
 returns : tie.Need-returns Inv-loop μ-loop
 returns c = let e = le-antisymm (c .before .loop .inv .0) (c .loop-test .left) in rw e at (c .before .loop .inv .2)

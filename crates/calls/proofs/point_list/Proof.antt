@@ -1,3 +1,5 @@
+use Rattle.rules.specs.Record.{zeroArgument}
+use Rattle.rules.proofs.Arguments.{words-turn}
 use Rattle.calls.proofs.Laws.{next-fits}
 use borrow.Author.Needs.{needs}
 use lib.ListN.{length, take}
@@ -8,7 +10,7 @@ use mathlib.Core.Path.{_≡_, refl}
 use Rattle.rules.proofs.Memory.{same-long}
 use Rattle.rules.specs.Arguments.{wordsIn, pointing}
 use Rattle.rules.specs.Memory.{puts, apply}
-use Rattle.calls.proofs.Laws.{words-turn, point-turn}
+use Rattle.calls.proofs.Laws.{point-turn}
 use Rattle.calls.proofs.point_list.Statement.{statement}
 use Rattle.calls.proofs.point_list.Tie as tie
 
@@ -56,7 +58,7 @@ loop-less : tie.Need-loop-less Inv-loop μ-loop
 loop-less c = search needs
 
 loop-again : tie.Need-loop-again Inv-loop μ-loop
-loop-again c = let a = c .before .before .before .before .before .before .before .before .before .before .before .before .before .args in let l = c .before .before .before .before .before .before .before .before .before .before .before .loop in let short : l .i < length (a .t6) = search needs in (omega arith, rw (words-turn (a .t6) (l .i) short) (omega arith), point-turn (a .t6) (l .i) short _ _ _ _ _ _ _ _ _ (l .inv .1) (l .inv .2) (c .before .before .before .before .before .before .before .store-pointer .ensures) (c .before .before .before .store-pointer2 .ensures))
+loop-again c = let a = c .before .before .before .before .before .before .before .before .before .before .before .before .before .args in let l = c .before .before .before .before .before .before .before .before .before .before .before .loop in let short : l .i < length (a .t6) = search needs in (omega arith, rw (words-turn (a .t6) (l .i) zeroArgument short) (omega arith), point-turn (a .t6) (l .i) short _ _ _ _ _ _ _ _ _ (l .inv .1) (l .inv .2) (c .before .before .before .before .before .before .before .store-pointer .ensures) (c .before .before .before .store-pointer2 .ensures))
 
 same-length : tie.Need-same-length Inv-loop μ-loop
 same-length c = same-long _ _ _ _ (c .before .loop .inv .2)

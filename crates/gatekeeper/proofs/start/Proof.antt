@@ -4,7 +4,7 @@ use borrow.Author.Needs.{needs}
 use Rattle.rules.specs.Step.{judgedStart, outcome, memoryAfter}
 use Rattle.rules.specs.Memory.{stackLength}
 use Rattle.rules.proofs.Memory.{then}
-use Rattle.returns.proofs.Laws.{kept}
+use Rattle.rules.proofs.Refusals.{kept}
 use Rattle.gatekeeper.proofs.start.Statement.{statement}
 use Rattle.gatekeeper.proofs.start.Tie as tie
 

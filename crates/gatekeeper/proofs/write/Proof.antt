@@ -4,7 +4,7 @@ use denote.Ref.{now}
 use borrow.Author.Needs.{needs}
 use Rattle.rules.specs.Step.{reachVerdict, outcome, memoryAfter}
 use Rattle.gatekeeper.specs.Entries.{state}
-use Rattle.returns.proofs.Laws.{kept}
+use Rattle.rules.proofs.Refusals.{kept}
 use Rattle.gatekeeper.proofs.write.Statement.{statement}
 use Rattle.gatekeeper.proofs.write.Tie as tie
 

@@ -9,7 +9,8 @@ use Rattle.rules.specs.Record.{zeroArgument}
 use Rattle.rules.specs.Memory.{apply}
 use Rattle.rules.proofs.Memory.{same-long}
 use Rattle.returns.specs.Back.{backFrom, ShortAt}
-use Rattle.returns.proofs.Laws.{words-turn, back-turn}
+use Rattle.rules.proofs.Arguments.{words-turn}
+use Rattle.returns.proofs.Laws.{back-turn}
 use Rattle.returns.proofs.copy_back.Statement.{statement}
 use Rattle.returns.proofs.copy_back.Tie as tie
 

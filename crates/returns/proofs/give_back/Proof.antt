@@ -1,8 +1,9 @@
+use Rattle.rules.proofs.Refusals.{kept}
 use mathlib.Core.Path.{_≡_, sym, _∙_}
 use denote.Ref.{now}
 use borrow.Author.Needs.{needs}
 use Rattle.rules.specs.Return.{returnVerdict}
-use Rattle.returns.proofs.Laws.{kept, judges, ready}
+use Rattle.returns.proofs.Laws.{judges, ready}
 use Rattle.returns.proofs.give_back.Statement.{statement}
 use Rattle.returns.proofs.give_back.Tie as tie
 
