@@ -7,7 +7,8 @@ ghost use Rattle.rules.specs.declared.Verdict.the-variants.{Refused};
 ghost use lib.Dec.{ltb};
 ghost use Rattle.rules.specs.Tests.{pick, refuseIf};
 ghost use Rattle.rules.specs.Segments.{lookupOf};
-ghost use Rattle.rules.specs.Call.{runsIn, entered, refuses, why, baseSound, seen, asked, endOf, judged};
+ghost use Rattle.rules.specs.Bracket.{numberOf, reasonOf};
+ghost use Rattle.rules.specs.Call.{runsIn, entered, refuses, baseSound, seen, asked, endOf, judged};
 ghost use Rattle.rules.specs.Answer.{places, outcomeBy};
 ghost use Rattle.rules.specs.Return.{faultBack, judgedBack};
 ghost use Rattle.rules.specs.Step.{judgedStart, judgedReach};
@@ -55,8 +56,17 @@ fn is_refusal(d: Decision) -> bool
     }
 }
 
-fn reason_why(d: Decision) -> u32
-    ensures { λ r. ⌜ r ≡ why d ⌝ }
+fn number_of(d: Decision) -> u32
+    ensures { λ r. ⌜ r ≡ numberOf d ⌝ }
+{
+    match d {
+        Decision::Enter(_) => 0,
+        Decision::Refuse(_) => 3,
+    }
+}
+
+fn reason_of(d: Decision) -> u32
+    ensures { λ r. ⌜ r ≡ reasonOf d ⌝ }
 {
     match d {
         Decision::Enter(_) => 0,
@@ -156,8 +166,8 @@ pub fn judge_call(top: Ring, file: bool, sound: bool, calls: u32, q: Request, v:
     );
     let aimed = refuse_if(
         is_refusal(d),
-        3,
-        reason_why(d),
+        number_of(d),
+        reason_of(d),
         refuse_if(reason != 0, 10, reason, fits),
     );
     let level = refuse_if(top.0 < v.saved.0, 8, 0, refuse_if(32 <= calls, 9, 0, aimed));

@@ -19,19 +19,26 @@ use Rattle.rules.specs.Step.{Event, starts, crosses, writes, looks, Stat
 use Rattle.rules.specs.History.{Done, begins, Run, Call, unstruck, into, sees, newRing, May, written, call-left, call-frame, call-list, call-copies, call-base, call-making, return-left, return-level, return-argument, Covers, Restored, ByGate, Falls, gate, back, Demand3}
 use Rattle.rules.proofs.Called.{called, fresh-high}
 use Rattle.rules.proofs.Extent.{lands}
-use Rattle.rules.proofs.Runs.{returned}
+use Rattle.rules.proofs.Runs.{returned, run-long}
 use Rattle.rules.proofs.Demand3.{demand3, ring-called, ring-returned}
 
 module _ (top : ℕ) (low : top ≤ 63) (f : List ℕ) {r : Ring} {s : State} {h : List Done} (run : Run top f r s h) where
-  -- "No program outside reaches a keeper but through a listed gate": where an accepted call enters a lower ring, its target is a gate
-  -- that the segment file lists, and the caller stood in that segment's call bracket.
-  pub only-by-gate : (q : Request) → returns q ≡ false → step top f s (crosses q) .process .ring .0 < s .process .ring .0
-      → ByGate f (s .process .ring) q
-  only-by-gate q w less = go (demand3 top f low run (crosses q) refl .falls less .1)
+  -- "No program outside reaches a keeper but through a listed gate": an accepted call into a lower ring aims at a gate that the segment
+  -- file lists, from that segment's call bracket; and the only other way down is the return to a keeper that had itself called outward.
+  pub record GoesBack : Type 0 where
+    pub call : Call
+    pub rest : List Call
+    pub newest-call : unstruck h ≡ call ∷ rest
+    pub outward : call .before .process .ring .0 < into f call .0
+
+  pub only-by-gate : (e : Event) → begins e (verdict top f s e) ≡ false → step top f s e .process .ring .0 < s .process .ring .0
+      → ((q : Request) × (e ≡ crosses q) × (returns q ≡ false) × ByGate f (s .process .ring) q) ⊎ GoesBack
+  only-by-gate e b less = go (unstruck h) refl (demand3 top f low run e b .falls less .1)
     where
-      go : {cs : List Call} → Falls f (s .process .ring) cs (crosses q) → ByGate f (s .process .ring) q
-      go (gate w′ b) = b
-      go (back w′ l) = absurd (let z : _≡_ {A = ℕ} 0 1 = cc in omega arith)
+      go : {e : Event} (u : List Call) → unstruck h ≡ u → Falls f (s .process .ring) u e
+          → ((q : Request) × (e ≡ crosses q) × (returns q ≡ false) × ByGate f (s .process .ring) q) ⊎ GoesBack
+      go u is (gate {q = q} w g) = inl (q, refl, w, g)
+      go u is (back {c = c} {cs = cs} w l) = inr (record { call = c; rest = cs; newest-call = is; outward = l })
 
   -- "What an outer program writes cannot change where a return goes": an accepted return gives back the frame, the argument place and
   -- the return place as they stood when the call that it strikes was made, whatever was written since.
@@ -46,10 +53,19 @@ module _ (top : ℕ) (low : top ≤ 63) (f : List ℕ) {r : Ring} {s : State} {h
     pub accepted : verdict top f s e ≡ Accepted
     pub side : (s .process .ring .0 ≡ k) ⊎ (step top f s e .process .ring .0 ≡ k)
 
+  -- the accepted write e stores word o of stack k, from the stack's own ring or a lower one
+  pub record Writes (e : Event) (k o : ℕ) : Type 0 where
+    pub stack : Ring
+    pub value : ℕ
+    pub is : e ≡ writes stack o value
+    pub own : stack .0 ≡ k
+    pub accepted : verdict top f s e ≡ Accepted
+    pub lower : s .process .ring .0 ≤ k
+
   -- "A keeper's stack is touched only by its own ring, lower rings, and crossings into or out of it."
   pub touched-only : (e : Event) → begins e (verdict top f s e) ≡ false → (k o : ℕ) → o < stackLength (s .memory)
       → (word (step top f s e .memory) (spot (stackLength (s .memory)) k o) ≡ word (s .memory) (spot (stackLength (s .memory)) k o))
-      ⊎ ((s .process .ring .0 ≤ k) ⊎ Crosses e k)
+      ⊎ (Writes e k o ⊎ Crosses e k)
   touched-only e b k o l = ⊎-elim inl (λ m. inr (by (m .1) (m .0))) (demand3 top f low run e b .words k o l)
     where
       leaves : (q : Request) → verdict top f s (crosses q) ≡ Accepted → Crosses (crosses q) (s .process .ring .0)
@@ -61,8 +77,8 @@ module _ (top : ℕ) (low : top ≤ 63) (f : List ℕ) {r : Ring} {s : State} {h
       goes-back : (q : Request) → returns q ≡ true → verdict top f s (crosses q) ≡ Accepted → Crosses (crosses q) (newest (s .process) .old .0)
       goes-back q w v = record { request = q; is = refl; accepted = v; side = inr (ap (λ (x : Ring). x .0) (ring-returned top f s q w v)) }
 
-      by : {e : Event} {k o : ℕ} → May f s e k o → verdict top f s e ≡ Accepted → (s .process .ring .0 ≤ k) ⊎ Crosses e k
-      by (written a) v = inl a
+      by : {e : Event} {k o : ℕ} → May f s e k o → verdict top f s e ≡ Accepted → Writes e k o ⊎ Crosses e k
+      by (written {k = j} {v = w} a) v = inl (record { stack = j; value = w; is = refl; own = refl; accepted = v; lower = a })
       by (call-left {q = q} w a) v = inr (leaves q v)
       by (call-frame {q = q} w a b) v = inr (calls q w v)
       by (call-list {q = q} w a b) v = inr (calls q w v)
@@ -73,13 +89,12 @@ module _ (top : ℕ) (low : top ≤ 63) (f : List ℕ) {r : Ring} {s : State} {h
       by (return-level {q = q} w) v = inr (goes-back q w v)
       by (return-argument {q = q} w a b) v = inr (goes-back q w v)
 
-  -- "5-7 spare": of a made stack they change by a write alone.
+  -- "5-7 spare": of a made stack they change by an accepted write of that very word alone.
   pub spare : (e : Event) → begins e (verdict top f s e) ≡ false → (k o : ℕ) → isMade (s .process .made) k ≡ true → 5 ≤ o → o < 8
-      → 8 ≤ stackLength (s .memory)
       → (word (step top f s e .memory) (spot (stackLength (s .memory)) k o) ≡ word (s .memory) (spot (stackLength (s .memory)) k o))
-      ⊎ ((j : Ring) × (at : ℕ) × (v : ℕ) × (e ≡ writes j at v))
-  spare e b k o made lo hi big =
-      ⊎-elim inl (λ m. by (m .1) (m .0) made lo hi) (demand3 top f low run e b .words k o (omega arith))
+      ⊎ Writes e k o
+  spare e b k o made lo hi =
+      ⊎-elim inl (λ m. by (m .1) (m .0) made lo hi) (demand3 top f low run e b .words k o (omega (arith, run-long run)))
     where
       high : (q : Request) → returns q ≡ false → verdict top f s (crosses q) ≡ Accepted → 40 ≤ sees f s q .fresh
       high q w v = fresh-high top f (s .memory) (s .process) q (called top f (s .memory) (s .process) q (rw w at v))
@@ -90,8 +105,8 @@ module _ (top : ℕ) (low : top ≤ 63) (f : List ℕ) {r : Ring} {s : State} {h
 
       by : {e : Event} {k o : ℕ} → May f s e k o → verdict top f s e ≡ Accepted → isMade (s .process .made) k ≡ true → 5 ≤ o → o < 8
           → (word (step top f s e .memory) (spot (stackLength (s .memory)) k o) ≡ word (s .memory) (spot (stackLength (s .memory)) k o))
-          ⊎ ((j : Ring) × (at : ℕ) × (v : ℕ) × (e ≡ writes j at v))
-      by (written {k = j} {at = at} {v = w} a) v m l h = inr (j, at, w, refl)
+          ⊎ Writes e k o
+      by (written {k = j} {v = w} a) v m l h = inr (record { stack = j; value = w; is = refl; own = refl; accepted = v; lower = a })
       by (call-left w a) v m l h = absurd (omega arith)
       by (call-frame {q = q} w a b) v m l h = absurd (omega (arith, high q w v))
       by (call-list {q = q} w a b) v m l h = absurd (omega (arith, high q w v))

@@ -7,7 +7,7 @@ use Prim.Native.Nat.{ℕ, suc, _+_, _*_, _<_, _≤_}
 use native.Mathlib.Omega.{arith}
 use lib.Dec.{leb, ltb}
 use lib.ListN.{length, take}
-use borrow.Author.Tests.{lt-ltb}
+use borrow.Author.Tests.{lt-ltb, le-ltb}
 use Rattle.rules.specs.declared.Ring.{Ring}
 use Rattle.rules.specs.declared.Level.{Level}
 use Rattle.rules.specs.declared.Argument.{Argument}
@@ -94,6 +94,10 @@ inward-enters-r2 r fault offset s hit to way e =
 -- "Refusing a level below the ring; it is raised."
 pub level-raised : (r : Ring) (v : Seen) → v .saved .0 < r .0 → levelOf r v .0 ≡ r .0
 level-raised r v below = rw (lt-ltb (v .saved .0) (r .0) below)
+
+-- number 8's test does not hold of it
+pub low-level-passes : (top : ℕ) (r : Ring) (v : Seen) → r .0 ≤ top → v .saved .0 ≤ r .0 → ltb top (v .saved .0) ≡ false
+low-level-passes top r v low below = le-ltb top (v .saved .0) (omega arith)
 
 -- "Making a stack before room is known": a refused step stores nothing, and so makes no stack
 pub refused-stores-nothing : (top : ℕ) (f : List ℕ) (s : State) (e : Event) (n reason : ℕ) → verdict top f s e ≡ Refused n reason

@@ -233,3 +233,16 @@ unfolding makeStack
 made-read L k o m l h =
     let short : o < length (upTo (madeWord k) L) = rw length-upTo l in
     rw zero-add at (inside L k 0 o (upTo (madeWord k) L) m short (rw length-upTo (omega arith))) ∙ upTo-get (madeWord k) L o l
+
+-- "So an empty frame lies at 8 and the next at 40": what a stack only now made reads as, in words 1 and 27 (the last-used frame's 19)
+pub made-last : (k : ℕ) → madeWord k 1 ≡ 8
+made-last k = refl
+
+pub made-next : (k : ℕ) → madeWord k (8 + 19) ≡ 40
+made-next k = refl
+
+pub new-last : (L k : ℕ) (m : List ℕ) → 28 ≤ L → spot L k L ≤ length m → word (apply L (makeStack L k) m) (spot L k 1) ≡ 8
+new-last L k m l h = made-read L k 1 m (omega arith) h ∙ made-last k
+
+pub new-next : (L k : ℕ) (m : List ℕ) → 28 ≤ L → spot L k L ≤ length m → word (apply L (makeStack L k) m) (spot L k (8 + 19)) ≡ 40
+new-next L k m l h = made-read L k (8 + 19) m (omega arith) h ∙ made-next k

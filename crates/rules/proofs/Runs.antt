@@ -33,7 +33,7 @@ use Rattle.rules.specs.Return.{returnVerdict}
 use Rattle.rules.specs.Step.{Event, starts, crosses, writes, looks, State, returns, judgedStart, startNext, verdict, ground, stores, next, given, outcome, memoryAfter, step}
 use Rattle.rules.specs.History.{Done, begins, Run, begun, then, Call, tail, strike, unstruck, isCall, callsIn, sees, into, entryIn, ringOf, enters, isEntered}
 use Rattle.rules.proofs.Made.{with-made, with-other, serial-step}
-use Rattle.rules.proofs.Memory.{length-told}
+use Rattle.rules.proofs.Memory.{length-told, length-apply}
 use Rattle.rules.proofs.Record.{Whole, whole, newest-is, newest-open, Held, held}
 use Rattle.rules.proofs.Verdicts.{JudgedBack, return-facts, start-facts}
 use Rattle.rules.proofs.Called.{Called, called}
@@ -270,3 +270,34 @@ module _ (top : ℕ) (low : top ≤ 63) (f : List ℕ) (r : Ring) where
   pub kept : {s : State} {h : List Done} → Run top f r s h → Kept s h
   kept (begun s v) = keep-start s v
   kept (then {s = s} {h = h} run e b) = keep-step s h e (verdict top f s e) refl b (kept run)
+
+-- ---- one stack length
+
+same-length : (m n : List ℕ) → length m ≡ length n → stackLength m ≡ stackLength n
+unfolding stackLength
+same-length m n e = rw e
+
+-- a step changes words and never how many there are
+step-length : (top : ℕ) (f : List ℕ) (s : State) (e : Event) → length (memoryAfter top f s e) ≡ length (s .memory)
+unfolding memoryAfter
+step-length top f s e = by (verdict top f s e)
+  where
+    ground-long : (e : Event) → length (ground top f s e) ≡ length (s .memory)
+    ground-long (starts k) = length-replicate (length (s .memory)) 0
+    ground-long (crosses q) = refl
+    ground-long (writes k at v) = refl
+    ground-long (looks k at) = refl
+
+    by : (v : Verdict) → length (memoryBy v (s .memory) (apply (stackLength (s .memory)) (stores top f s e) (ground top f s e))) ≡ length (s .memory)
+    by Accepted = length-apply (stackLength (s .memory)) (stores top f s e) (ground top f s e) ∙ ground-long e
+    by (Refused n reason) = refl
+
+-- "with .. one stack length": every state of a run has a permitted one, and a step keeps it
+pub step-long : (top : ℕ) (f : List ℕ) (s : State) (e : Event) → stackLength (step top f s e .memory) ≡ stackLength (s .memory)
+step-long top f s e = same-length (memoryAfter top f s e) (s .memory) (step-length top f s e)
+
+pub run-long : {top : ℕ} {f : List ℕ} {r : Ring} {s : State} {h : List Done} → Run top f r s h → 128 ≤ stackLength (s .memory)
+run-long {top} {f} {r} (begun s v) =
+    let h = start-facts top (stackLength (s .memory)) r v in
+    rw (step-long top f s (starts r)) (length-told (s .memory) (h .0) .1)
+run-long {top} {f} {r} (then {s = s} run e b) = rw (step-long top f s e) (run-long run)

@@ -15,7 +15,7 @@ use Rattle.rules.specs.declared.Lookup.the-variants.{Listed}
 use Rattle.rules.specs.Tests.{pick, allFrom}
 use Rattle.rules.specs.Segments.{
   records,
-  number,
+  numberAt,
   bracket1,
   bracket2,
   bracket3,
@@ -71,9 +71,9 @@ first-at p i (suc d) k t = go (p i) refl t (first-at p (i + 1) d k)
 
 -- the rules that record i keeps, the highest ring being top
 pub record SoundRecord (top : ℕ) (f : List ℕ) (i : ℕ) : Type 0 where
-  pub low : 64 ≤ number f i
-  pub high : number f i ≤ 1023
-  pub ascends : i * 40 + 40 < length f → number f i < number f (i + 1)
+  pub low : 64 ≤ numberAt f i
+  pub high : numberAt f i ≤ 1023
+  pub ascends : i * 40 + 40 < length f → numberAt f i < numberAt f (i + 1)
   pub first : bracket1 f i ≤ bracket2 f i
   pub second : bracket2 f i ≤ bracket3 f i
   pub third : bracket3 f i ≤ top
@@ -105,7 +105,7 @@ unfolding recordSound
 record-facts top f i e =
     let last = leb (length f) (i * 40 + 40) in
     let part = nested-at (numberSound f i ∷ fieldsSound top f i ∷ allFrom (gateSound f i) 0 8 ∷ []) in
-    let n = nested-at (leb 64 (number f i) ∷ leb (number f i) 1023 ∷ (last || ltb (number f i) (number f (i + 1))) ∷ []) in
+    let n = nested-at (leb 64 (numberAt f i) ∷ leb (numberAt f i) 1023 ∷ (last || ltb (numberAt f i) (numberAt f (i + 1))) ∷ []) in
     let rest = leb (modeOf f i) 7 ∷ leb (gateCount f i) 8 ∷ eqb (zeroByte f i) 0 ∷ [] in
     let b = nested-at (leb (bracket1 f i) (bracket2 f i) ∷ leb (bracket2 f i) (bracket3 f i) ∷ leb (bracket3 f i) top ∷ rest) in
     let p = part 0 e in
@@ -145,7 +145,7 @@ file-facts top f e =
 pub record ListedAs (f : List ℕ) (x : ℕ) (s : Segment) : Type 0 where
   pub place : s .at < records f
   pub below : s .at < 192
-  pub named : number f (s .at) ≡ x
+  pub named : numberAt f (s .at) ≡ x
   pub says : s ≡ segmentAt f (s .at)
 
 pub listed-facts : (f : List ℕ) (x : ℕ) (s : Segment) → lookupOf f x ≡ Listed s → ListedAs f x s
@@ -161,7 +161,7 @@ listed-facts f x s e = go (found f x) refl e
         record {
           place = omega arith;
           below = omega arith;
-          named = rw a (eqb-true (number f k) x (h .0));
+          named = rw a (eqb-true (numberAt f k) x (h .0));
           says = w ∙ ap (segmentAt f) (sym a);
         }
 

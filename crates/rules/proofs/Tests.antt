@@ -3,7 +3,7 @@
 use mathlib.Core.Path.{_≡_, refl, sym, ap, ap₂, _∙_}
 use mathlib.Core.Logic.{⊎-elim}
 use mathlib.Core.Bool.{Bool, true, false, _&&_, _||_, and-assoc, and-true, false≢true}
-use mathlib.Core.List.{List, [], _∷_}
+use mathlib.Core.List.{List, [], _∷_, _++_}
 use Prim.Native.Nat.{ℕ, zero, suc, _+_, _-_, _≤_, _<_}
 use native.Mathlib.Nat.{not-suc-le-zero, le-of-suc-le-suc, eq-or-lt-of-le}
 use native.Mathlib.Decide.{decLt}
@@ -174,3 +174,10 @@ pub through : {A : Type 0} (ts : List (Refusal A)) (a : A) → None ts → first
 unfolding refuseIf
 through [] a n = refl
 through (t ∷ ts) a n = rw (n .0) (through ts a (n .1))
+
+-- a refusal is given exactly where it is the first whose test holds
+pub given-when : {A : Type 0} (ts : List (Refusal A)) (t : Refusal A) (us : List (Refusal A)) (a : A) → None ts → t .when ≡ true
+    → first (ts ++ t ∷ us) a ≡ t .gives
+unfolding refuseIf
+given-when [] t us a n h = rw h
+given-when (s ∷ ts) t us a n h = rw (n .0) (given-when ts t us a (n .1) h)

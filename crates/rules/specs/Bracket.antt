@@ -60,7 +60,7 @@ targetIn f r fault offset Unlisted = Refuse 1
 unfoldable pub targetOf : List ℕ → Ring → ℕ → ℕ → ℕ → Decision
 targetOf f r fault x offset = targetIn f r fault offset (lookupOf f x)
 
--- the number and the reason of each case
+-- document 01's number and reason for each case of the enum
 abbrev pub numberOf : Decision → ℕ
 numberOf (Enter to) = 0
 numberOf (Refuse reason) = 3

@@ -25,7 +25,7 @@ use Rattle.rules.specs.Rings.{largerOf}
 use Rattle.rules.specs.Memory.{spot, word, words, Store, puts, stackLength, madeWord, makeStack}
 use Rattle.rules.specs.Made.{isMade, nextSerial}
 use Rattle.rules.specs.Segments.{fileSound, lookupOf, executes}
-use Rattle.rules.specs.Bracket.{stays, targetOf}
+use Rattle.rules.specs.Bracket.{stays, targetOf, numberOf, reasonOf}
 use Rattle.rules.specs.Record.{zeroArgument, placed, processSound, added}
 use Rattle.rules.specs.Arguments.{argumentsAt, handedOf, copiesOf, pointing}
 use Rattle.rules.specs.Answer.{number, places}
@@ -43,10 +43,6 @@ entered (Refuse reason) = record { 0 = 0 }
 abbrev pub refuses : Decision → Bool
 refuses (Enter to) = false
 refuses (Refuse reason) = true
-
-abbrev pub why : Decision → ℕ
-why (Enter to) = 0
-why (Refuse reason) = reason
 
 -- the way of a decision from ring r
 abbrev pub goesOutward : Ring → Decision → Bool
@@ -124,7 +120,7 @@ callTests top file sound calls q v =
     ∷ number 7 0 (not (v .runs && eqb (v .segment) (q .running) && leb (v .offset) 262143))
     ∷ number 8 0 (ltb top (v .saved .0))
     ∷ number 9 0 (leb 32 calls)
-    ∷ number 3 (why (v .decision)) (refuses (v .decision))
+    ∷ number (numberOf (v .decision)) (reasonOf (v .decision)) (refuses (v .decision))
     ∷ number 10 (v .handed .reason) (not (eqb (v .handed .reason) 0))
     ∷ number 11 0 (not (v .base))
     ∷ number 12 0 (ltb (v .len) (endOf v))

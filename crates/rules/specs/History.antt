@@ -1,4 +1,4 @@
--- Demand 3, stated over any run of the step that every public entry's contract cites (specs/Step.antt). Assumes nothing.
+-- Demand 3, stated over any run of the very step that the entries' contracts cite (specs/Step.antt). Assumes nothing.
 --
 -- A run begins with an accepted start and goes on with any events, each handed what the last one left; an accepted second start is
 -- no step of it. The history has the steps, newest first, each with the state that it was handed, so that ring, level, frame, argument

@@ -27,8 +27,8 @@ abbrev pub records : List ℕ → ℕ
 records f = length f / 40
 
 -- "Bytes 0-1 number .. 2, 3, 4: r1 .. r2 .. r3 .. 5 mode .. 6 gate count .. 7 zero .. 8-39 eight gate offsets of 4 bytes"
-abbrev pub number : List ℕ → ℕ → ℕ
-number f i = halfAt f (i * 40)
+abbrev pub numberAt : List ℕ → ℕ → ℕ
+numberAt f i = halfAt f (i * 40)
 
 abbrev pub bracket1 : List ℕ → ℕ → ℕ
 bracket1 f i = byteAt f (i * 40 + 2)
@@ -54,8 +54,8 @@ gate f i j = wordAt f (i * 40 + (8 + j * 4))
 -- "strictly ascending by number" (the last record has no next), "number, 64 to 1023"
 abbrev pub numberSound : List ℕ → ℕ → Bool
 numberSound f i =
-    leb 64 (number f i) && (leb (number f i) 1023
-    && (leb (length f) (i * 40 + 40) || ltb (number f i) (number f (i + 1))))
+    leb 64 (numberAt f i) && (leb (numberAt f i) 1023
+    && (leb (length f) (i * 40 + 40) || ltb (numberAt f i) (numberAt f (i + 1))))
 
 -- "r1 ≤ r2 ≤ r3 ≤ 63; 5 mode (1 read, 2 write, 4 execute, added); 6 gate count 0 to 8; 7 zero", the highest ring being top
 abbrev pub fieldsSound : ℕ → List ℕ → ℕ → Bool
@@ -88,7 +88,7 @@ firstFrom p i (suc d) = pick (p i) (At i) (firstFrom p (i + 1) d)
 
 -- the first record with that number, among the first 192
 abbrev pub numbered : List ℕ → ℕ → ℕ → Bool
-numbered f x i = eqb (number f i) x
+numbered f x i = eqb (numberAt f i) x
 
 unfoldable pub found : List ℕ → ℕ → Found
 found f x = firstFrom (numbered f x) 0 (min (records f) 192)

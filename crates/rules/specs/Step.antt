@@ -1,5 +1,5 @@
--- One uniform step: a verdict, a list of stores, the next record, the answer; refused means unchanged, by computation. Every public
--- entry's contract cites it, and so does the theorem over runs. Assumes nothing.
+-- One uniform step: a verdict, a list of stores, the next record, the answer; refused means unchanged, by computation. The contract of
+-- every entry that judges cites it, and so does the theorem over runs. Assumes nothing.
 use mathlib.Core.Bool.{Bool, true, false, _||_, not}
 use mathlib.Core.List.{List, [], _∷_, _++_}
 use Prim.Native.Nat.{ℕ, _+_, _^_}

@@ -3,7 +3,7 @@
 ghost use mathlib.Core.Path.{_≡_};
 ghost use Prim.Native.Nat.{_+_, _*_, _<_, _≤_, min};
 ghost use Rattle.rules.specs.Tests.{allFrom};
-ghost use Rattle.rules.specs.Segments.{byteAt, halfAt, wordAt, records, number, gateCount, gate, numberSound, fieldsSound, gateSound, recordSound, fileSound, found, segmentAt, lookupOf, isGate};
+ghost use Rattle.rules.specs.Segments.{byteAt, halfAt, wordAt, records, numberAt, gateCount, gate, numberSound, fieldsSound, gateSound, recordSound, fileSound, found, segmentAt, lookupOf, isGate};
 use rules::Found;
 use rules::Lookup;
 use rules::Ring;
@@ -55,7 +55,7 @@ fn word(f: &[u8], k: u16) -> u32
 }
 
 fn number_of(f: &[u8], i: u8) -> u16
-    ensures { λ r. ⌜ r ≡ number (now (f .entry)) i ⌝ }
+    ensures { λ r. ⌜ r ≡ numberAt (now (f .entry)) i ⌝ }
 {
     half(f, i as u32 * 40)
 }

@@ -15,8 +15,11 @@ refuse-if-requires-2 c κs = search needs
 is-refusal-requires : tie.Need-is-refusal-requires
 is-refusal-requires c κs = search needs
 
-reason-why-requires : tie.Need-reason-why-requires
-reason-why-requires c κs = search needs
+number-of-requires : tie.Need-number-of-requires
+number-of-requires c κs = search needs
+
+reason-of-requires : tie.Need-reason-of-requires
+reason-of-requires c κs = search needs
 
 refuse-if-requires-3 : tie.Need-refuse-if-requires-3
 refuse-if-requires-3 c κs = search needs
@@ -56,7 +59,7 @@ refuse-if-requires-12 c κs = search needs
 
 returns : tie.Need-returns
 unfolding judged
-returns c = rw (c .refuse-if12 .ensures, c .before .refuse-if11 .ensures, c .before .before .before .refuse-if10 .ensures, c .before .before .before .before .refuse-if9 .ensures, c .before .before .before .before .before .is-asked .ensures, c .before .before .before .before .before .before .refuse-if8 .ensures, c .before .before .before .before .before .before .before .refuse-if7 .ensures, c .before .before .before .before .before .before .before .before .is-placed .ensures, c .before .before .before .before .before .before .before .before .before .before .before .before .before .refuse-if6 .ensures, c .before .before .before .before .before .before .before .before .before .before .before .before .before .before .refuse-if5 .ensures, c .before .before .before .before .before .before .before .before .before .before .before .before .before .before .before .before .before .refuse-if4 .ensures, c .before .before .before .before .before .before .before .before .before .before .before .before .before .before .before .before .before .before .refuse-if3 .ensures, c .before .before .before .before .before .before .before .before .before .before .before .before .before .before .before .before .before .before .before .reason-why .ensures, c .before .before .before .before .before .before .before .before .before .before .before .before .before .before .before .before .before .before .before .before .is-refusal .ensures, c .before .before .before .before .before .before .before .before .before .before .before .before .before .before .before .before .before .before .before .before .before .refuse-if2 .ensures, c .before .before .before .before .before .before .before .before .before .before .before .before .before .before .before .before .before .before .before .before .before .before .refuse-if .ensures, c .before .before .before .before .before .before .before .before .before .before .before .before .before .before .before .before .before .before .before .before .before .before .before .passes .ensures)
+returns c = rw (c .refuse-if12 .ensures, c .before .refuse-if11 .ensures, c .before .before .before .refuse-if10 .ensures, c .before .before .before .before .refuse-if9 .ensures, c .before .before .before .before .before .is-asked .ensures, c .before .before .before .before .before .before .refuse-if8 .ensures, c .before .before .before .before .before .before .before .refuse-if7 .ensures, c .before .before .before .before .before .before .before .before .is-placed .ensures, c .before .before .before .before .before .before .before .before .before .before .before .before .before .refuse-if6 .ensures, c .before .before .before .before .before .before .before .before .before .before .before .before .before .before .refuse-if5 .ensures, c .before .before .before .before .before .before .before .before .before .before .before .before .before .before .before .before .before .refuse-if4 .ensures, c .before .before .before .before .before .before .before .before .before .before .before .before .before .before .before .before .before .before .refuse-if3 .ensures, c .before .before .before .before .before .before .before .before .before .before .before .before .before .before .before .before .before .before .before .reason-of .ensures, c .before .before .before .before .before .before .before .before .before .before .before .before .before .before .before .before .before .before .before .before .number-of .ensures, c .before .before .before .before .before .before .before .before .before .before .before .before .before .before .before .before .before .before .before .before .before .is-refusal .ensures, c .before .before .before .before .before .before .before .before .before .before .before .before .before .before .before .before .before .before .before .before .before .before .refuse-if2 .ensures, c .before .before .before .before .before .before .before .before .before .before .before .before .before .before .before .before .before .before .before .before .before .before .before .refuse-if .ensures, c .before .before .before .before .before .before .before .before .before .before .before .before .before .before .before .before .before .before .before .before .before .before .before .before .passes .ensures)
 
 pub judge-call-spec : {M : Type 1} → statement M
 judge-call-spec =
@@ -66,7 +69,8 @@ judge-call-spec =
     refuse-if-requires
     refuse-if-requires-2
     is-refusal-requires
-    reason-why-requires
+    number-of-requires
+    reason-of-requires
     refuse-if-requires-3
     refuse-if-requires-4
     refuse-if-requires-5
