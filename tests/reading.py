@@ -20,12 +20,10 @@ SENTENCES = {
     "Marked bracket cases": 8,
     "The three demands": 8,
 }
-# crates being written: what is named in one is awaited until crates.txt lists it, and from then on must be a file with its names
-AWAITED = ("desk", "run", "trace")
 WORDS = 10  # of a sentence, at most
 
 wrong = []
-files, names, decisions, pending = set(), set(), set(), set()
+files, names, decisions = set(), set(), set()
 
 
 def text(path):
@@ -57,11 +55,6 @@ def defined(path, name):
     return False
 
 
-def awaited(path):
-    crate = re.match(r"crates/(\w+)", path)
-    return crate and crate.group(1) in AWAITED and not re.search("^%s:" % crate.group(1), text("crates.txt"), re.M)
-
-
 def faults(body):
     """what is wrong with what stands beside a sentence"""
     groups = []
@@ -73,9 +66,7 @@ def faults(body):
         else:
             yield "%s stands before any file" % token
     for path, inside in groups:
-        if awaited(path):
-            pending.add(path)
-        elif not os.path.isfile(path):
+        if not os.path.isfile(path):
             yield "there is no file %s" % path
         else:
             files.add(path)
@@ -108,6 +99,6 @@ for title, body in zip(titles, parts[2::2]):
         wrong += ["%s %s: %s" % (title, n, fault) for fault in faults(item[first.end():] if first else item)]
 for line in wrong:
     print("reading: " + line, file=sys.stderr)
-print("reading: %d sentences in %d sections, %d names in %d files, %d decisions, %d awaited, %d faults" % (
-    total, len(titles), len(names), len(files), len(decisions), len(pending), len(wrong)))
+print("reading: %d sentences in %d sections, %d names in %d files, %d decisions, %d faults" % (
+    total, len(titles), len(names), len(files), len(decisions), len(wrong)))
 sys.exit(1 if wrong else 0)

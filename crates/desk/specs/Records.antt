@@ -1,5 +1,5 @@
 -- Document 01, "The run program": a record of 24 bytes, what it asks, and exactly when it gives 17. Assumes nothing.
-use mathlib.Core.Bool.{Bool, true, false, _||_, not}
+use mathlib.Core.Bool.{Bool, true, _||_, not}
 use mathlib.Core.List.{List, [], _∷_}
 use Prim.Native.Nat.{ℕ, _+_}
 use lib.Dec.{ltb, eqb}

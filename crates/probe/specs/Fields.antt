@@ -1,11 +1,8 @@
 -- docs/TRACE.md, "Fields of kind 5": a field of the record becomes a number. Assumes nothing.
 use mathlib.Core.Bool.{Bool, _&&_, _||_}
-use mathlib.Core.List.{List}
-use Prim.Native.Nat.{ℕ, _+_, _*_, _^_}
+use Prim.Native.Nat.{ℕ, _+_, _*_}
 use lib.Dec.{leb, ltb, eqb}
 use lib.ListN.{getD, set}
-use Rattle.rules.specs.declared.Ring.{Ring}
-use Rattle.rules.specs.declared.Level.{Level}
 use Rattle.rules.specs.declared.Argument.{Argument}
 use Rattle.rules.specs.declared.Entry.{Entry}
 use Rattle.rules.specs.declared.Process.{Process}

@@ -3,10 +3,8 @@ use mathlib.Core.Bool.{Bool, true, _||_, not}
 use mathlib.Core.List.{[], _∷_}
 use Prim.Native.Nat.{ℕ}
 use lib.Dec.{leb, ltb, eqb}
-use Rattle.rules.specs.declared.Ring.{Ring}
 use Rattle.rules.specs.Tests.{pick, conj}
 use Rattle.desk.specs.declared.Fields.{Fields}
-use Rattle.desk.specs.declared.Asked.{Asked}
 use Rattle.desk.specs.declared.Asked.the-variants.{Wrong}
 use Rattle.desk.specs.Records.{ringOf, askedOf, kindOf}
 use Rattle.probe.specs.Fields.{fieldThere}

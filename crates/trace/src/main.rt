@@ -44,11 +44,18 @@ fn first_bytes(n: u32, f: &[u8]) -> usize
 // ---- One step
 
 // Kinds 0, 1 and 2, and 17.
-fn run_turn(file: &[u8], store: &mut [u32], b: Bench, a: Asked) -> Outcome {
+fn run_turn(file: &[u8], store: &mut [u32], b: Bench, a: Asked) -> Shown {
     let f = first_bytes(b.bytes, file);
     let n = first_words(b.words, store);
     let p = b.process;
-    turns::turn(&file[..f], &mut store[..n], p, a)
+    let o = turns::turn(&file[..f], &mut store[..n], p, a);
+    let process = o.process;
+    let answer = o.answer;
+    Shown {
+        bench: Bench { process, ..b },
+        answer,
+        seen: 0,
+    }
 }
 
 // Kind 3: the number from the separate question, and the digest of the part where it is 0.
@@ -123,32 +130,16 @@ fn clear_bytes(file: &mut [u8], from: u32, to: u32) {
     }
 }
 
+// What is asked is done.
 fn trace_turn(file: &mut [u8], store: &mut [u32], b: Bench, t: Told) -> Shown {
     match t {
-        Told::Run(a) => {
-            let o = run_turn(file, store, b, a);
-            let answer = o.answer;
-            let process = o.process;
-            Shown {
-                bench: Bench {
-                    process,
-                    words: b.words,
-                    bytes: b.bytes,
-                },
-                answer,
-                seen: 0,
-            }
-        }
+        Told::Run(a) => run_turn(file, store, b, a),
         Told::Look(stack, at) => look_turn(store, b, stack, at),
         Told::Room(words) => room_turn(store, b, words),
         Told::Field(field, entry, argument, n1, n2) => {
             let p = b.process;
             let process = probe::set_field(field, entry, argument, n1, n2, p);
-            plain(Bench {
-                process,
-                words: b.words,
-                bytes: b.bytes,
-            })
+            plain(Bench { process, ..b })
         }
         Told::Word(at, value) => {
             put_word(store, at, value);

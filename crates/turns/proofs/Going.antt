@@ -1,7 +1,7 @@
 -- The loop over the records of an input: what is left to answer makes the whole answer. Assumes nothing.
 use mathlib.Core.Path.{_≡_, refl, sym, ap, _∙_}
-use mathlib.Core.List.{List, [], _∷_, _++_, append-nil}
-use Prim.Native.Nat.{ℕ, zero, suc, _+_, _*_, _-_, _/_, _%_, _<_, _≤_}
+use mathlib.Core.List.{List, _++_, append-nil}
+use Prim.Native.Nat.{ℕ, suc, _+_, _*_, _-_, _/_, _%_, _<_, _≤_}
 use native.Mathlib.Nat.{sub-zero, zero-add, add-zero}
 use native.Mathlib.Omega.{arith}
 use lib.ListN.{length, length-append}
@@ -15,7 +15,7 @@ use Rattle.desk.specs.declared.Asked.the-variants.{Wrong}
 use Rattle.desk.specs.declared.Fields.{Fields}
 use Rattle.desk.specs.Records.{fieldsAt, askedOf}
 use Rattle.desk.specs.Lines.{line, shown, written}
-use Rattle.desk.proofs.Laws.{written-then, line-few, same-room}
+use Rattle.desk.proofs.Laws.{written-then, line-few}
 use Rattle.turns.specs.declared.Answered.{Answered}
 use Rattle.turns.specs.Turns.{wrongOutcome, turnOutcome, turnMemory, turned, lineOf, turnLine, askedAt, linesFrom, stateFrom, runState, runText, answeredBy}
 

@@ -4,7 +4,6 @@ use mathlib.Core.List.{List, []}
 use Prim.Native.Nat.{ℕ}
 use lib.ListN.{take}
 use Rattle.rules.specs.declared.Ring.{Ring}
-use Rattle.rules.specs.declared.Process.{Process}
 use Rattle.rules.specs.declared.Outcome.{Outcome}
 use Rattle.rules.specs.Made.{madeCount}
 use Rattle.rules.specs.Step.{State, starts, writes, reachVerdict, outcome, memoryAfter}

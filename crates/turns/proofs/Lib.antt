@@ -1,2 +1,3 @@
 mod Laws
 mod Going
+pub mod Parts

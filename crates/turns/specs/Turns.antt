@@ -1,12 +1,9 @@
 -- Document 01, "The run program": what one record does, and what is written for a run of records. Assumes nothing.
-use mathlib.Core.Bool.{Bool}
 use mathlib.Core.List.{List, [], _++_}
 use Prim.Native.Nat.{ℕ, zero, suc, _+_, _*_, _/_, _%_}
 use lib.Dec.{eqb}
 use lib.ListN.{length, replicate}
-use Rattle.rules.specs.declared.Ring.{Ring}
 use Rattle.rules.specs.declared.Process.{Process}
-use Rattle.rules.specs.declared.Answer.{Answer}
 use Rattle.rules.specs.declared.Outcome.{Outcome}
 use Rattle.rules.specs.Tests.{pick}
 use Rattle.rules.specs.Made.{madeCount}
