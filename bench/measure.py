@@ -80,4 +80,5 @@ def main():
             json.dump(found, f, indent=1)
 
 
-main()
+if __name__ == "__main__":
+    main()

@@ -15,6 +15,8 @@ def tables(found):
     out += ["| %s | %d | %d | %.2f |" % (n, a, b, a / b) for n, a, b in found["others"]]
     out += ["", "| growth | product | reference | ratio |", "|---|---|---|---|"]
     out += ["| %s | %d | %d | %.2f |" % (n, a, b, a / b) for n, a, b in found["growth"]]
+    out += ["", "| growth with L (`bench/length.py`: the crossing alone, without reading, line and digest) | product | reference | ratio |", "|---|---|---|---|"]
+    out += ["| %s | %d | %d | %.2f |" % (n, a, b, a / b) for n, a, b in found["length"]]
     out += ["", "| wall time, side by side | product | reference | ratio |", "|---|---|---|---|"]
     out += ["| %s | %.3f s | %.3f s | %.2f |" % (n, a, b, a / b) for n, a, b in found["wall"]]
     return "\n".join(out)
