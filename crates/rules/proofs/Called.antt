@@ -28,7 +28,7 @@ use Rattle.rules.proofs.Memory.{length-told}
 use Rattle.rules.proofs.Segments.{segment-facts}
 use Rattle.rules.proofs.Bracket.{Out, In, Entered, Aimed, aimed-at, entered-other, entered-below}
 use Rattle.rules.proofs.Arguments.{Fine, Listing, list-facts}
-use Rattle.rules.proofs.Verdicts.{Judged, call-facts, enters-ring}
+use Rattle.rules.proofs.Verdicts.{Judged, call-facts, call-accepts, enters-ring}
 
 -- ---- the words of a list of n arguments
 
@@ -82,6 +82,12 @@ pub record Called (top : ℕ) (f m : List ℕ) (p : Process) (q : Request) (v : 
   pub list : Listing f m (stackLength m) (p .made) (p .ring) (goesOutward (p .ring) (v .decision)) (q .place) (v .handed .count)
 
 module _ (top : ℕ) (f m : List ℕ) (p : Process) (q : Request) where
+  -- the facts of its tests give acceptance
+  pub call-passes : Judged top (fileSound top f) (processSound top (stackLength m) p) (p .calls) q (seen f m (p .ring) (p .made) q)
+      → callVerdict top f m p q ≡ Accepted
+  unfolding callVerdict
+  call-passes j = call-accepts top (fileSound top f) (processSound top (stackLength m) p) (p .calls) q (seen f m (p .ring) (p .made) q) j
+
   pub called : callVerdict top f m p q ≡ Accepted → Called top f m p q (seen f m (p .ring) (p .made) q)
   unfolding callVerdict seen decision handed handedOf
   called e =
