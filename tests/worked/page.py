@@ -74,20 +74,29 @@ def picture():
     marks = {33: {8: "frame at 8", 26: "next empty frame", 28: "return place", 100: "argument list"},
              1: {8: "empty frame", 26: "next empty frame", 40: "new frame", 56: "last frame", 58: "next empty frame", 60: "return place",
                  68: "frame in the calling ring", 72: "argument list, count 0"}}
-    out = ['<svg xmlns="http://www.w3.org/2000/svg" width="760" height="560" font-family="monospace" font-size="12">',
-           '<rect width="760" height="560" fill="white"/>']
+    out = ['<svg xmlns="http://www.w3.org/2000/svg" width="800" height="410" font-family="monospace" font-size="12">',
+           '<rect width="800" height="410" fill="white"/>']
+    at_y = {}
     for column, stack in enumerate((33, 1)):
-        x = 40 + 370 * column
+        x = 70 + 370 * column
         out.append('<text x="%d" y="28" font-size="15">stack %d (segment %d)</text>' % (x, stack, stack))
         shown = sorted({at for at in range(L) if model.store[stack * L + at]} | set(marks[stack]) | {0, 1, 2, 3, 4})
         y = 50
         for at in shown:
+            at_y[stack, at] = y
             label = marks[stack].get(at) or names.get(at, "")
             out.append('<rect x="%d" y="%d" width="150" height="18" fill="none" stroke="black"/>' % (x, y - 13))
             out.append('<text x="%d" y="%d">%3d</text><text x="%d" y="%d">%d</text>' % (x + 6, y, at, x + 60, y, model.store[stack * L + at]))
             if label:
                 out.append('<text x="%d" y="%d" font-size="11">%s</text>' % (x + 158, y, label))
             y += 20
+    # the pointers that lead to a frame shown here: (stack, word, how far left the line runs) to (stack, word)
+    for (stack, word, left), aim in (((33, 0, 20), (33, 8)), ((1, 0, 20), (1, 8)), ((1, 56, 34), (1, 8)), ((1, 68, 48), (33, 8))):
+        x, y, to = 70 + 370 * (stack == 1), at_y[stack, word] - 4, at_y[aim] + (-4 if aim[0] == stack else 4)
+        end = x if aim[0] == stack else 70 + 150
+        out.append('<polyline points="%d,%d %d,%d %d,%d %d,%d" fill="none" stroke="#555"/>' % (x, y, x - left, y, x - left, to, end, to))
+        tip = -6 if aim[0] == stack else 6
+        out.append('<polygon points="%d,%d %d,%d %d,%d" fill="#555"/>' % (end, to, end + tip, to - 4, end + tip, to + 4))
     out.append("</svg>")
     return "\n".join(out) + "\n"
 
