@@ -26,10 +26,14 @@ gather-requires-2 : tie.Need-gather-requires-2
 gather-requires-2 c κs = search needs
 
 copies-if-requires : tie.Need-copies-if-requires
-copies-if-requires c κs = let h = ready-to _ _ _ _ (c .before .before .before .before .before .before .before .before .before .before .d .given .1) (c .before .before .before .before .before .before .before .before .before .before .before .before .before .pre) in (h .few, h .out, h .inward)
+copies-if-requires c κs =
+    let h = ready-to _ _ _ _ (c .before .before .before .before .before .before .before .before .before .before .d .given .1) (c .before .before .before .before .before .before .before .before .before .before .before .before .before .pre) in
+    (h .few, h .out, h .inward)
 
 enter-requires : tie.Need-enter-requires
-enter-requires c κs = let h = ready-to _ _ _ _ (c .before .before .before .before .before .before .before .before .before .before .before .before .d .given .1) (c .before .before .before .before .before .before .before .before .before .before .before .before .before .before .before .pre) in (h .low, h .fits, h .few, λ t. let w = h .out t in rw (w .0) (w .1))
+enter-requires c κs =
+    let h = ready-to _ _ _ _ (c .before .before .before .before .before .before .before .before .before .before .before .before .d .given .1) (c .before .before .before .before .before .before .before .before .before .before .before .before .before .before .before .pre) in
+    (h .low, h .fits, h .few, λ t. let w = h .out t in rw (w .0) (w .1))
 
 larger-requires : tie.Need-larger-requires
 larger-requires c κs = search needs

@@ -23,7 +23,9 @@ add-point-list-3 : tie.Need-add-point-list-3
 add-point-list-3 c = search needs
 
 point-list-requires : tie.Need-point-list-requires
-point-list-requires c κs = let w = c .before .before .before .before .before .before .before .before .pre .2 (c .before .before .before .before .before .before .if1 .taken) in (search needs, search needs, search needs, w)
+point-list-requires c κs =
+    let w = c .before .before .before .before .before .before .before .before .pre .2 (c .before .before .before .before .before .before .if1 .taken) in
+    (search needs, search needs, search needs, w)
 
 same-length : tie.Need-same-length
 same-length c = search needs

@@ -37,13 +37,21 @@ cast-put-into : tie.Need-cast-put-into Inv-loop μ-loop
 cast-put-into c = search needs
 
 put-into-requires : tie.Need-put-into-requires Inv-loop μ-loop
-put-into-requires c κs = let a = c .before .before .before .before .before .before .args in let l = c .before .before .before .before .loop in let short : l .i < length (a .t4) = search needs in omega (arith, next-fits (a .t4) (l .i) (a .n) short (c .before .before .before .loop-test .taken), l .inv .1, c .before .before .before .before .before .before .pre)
+put-into-requires c κs =
+    let a = c .before .before .before .before .before .before .args in
+    let l = c .before .before .before .before .loop in
+    let short : l .i < length (a .t4) = search needs in
+    omega (arith, next-fits (a .t4) (l .i) (a .n) short (c .before .before .before .loop-test .taken), l .inv .1, c .before .before .before .before .before .before .pre)
 
 cast-at : tie.Need-cast-at Inv-loop μ-loop
 cast-at c = search needs
 
 add-at : tie.Need-add-at Inv-loop μ-loop
-add-at c = let a = c .before .before .before .before .before .before .before .before .args in let l = c .before .before .before .before .before .before .loop in let short : l .i < length (a .t4) = search needs in omega (arith, next-fits (a .t4) (l .i) (a .n) short (c .before .before .before .before .before .loop-test .taken), l .inv .1, c .before .before .before .before .before .before .before .before .pre)
+add-at c =
+    let a = c .before .before .before .before .before .before .before .before .args in
+    let l = c .before .before .before .before .before .before .loop in
+    let short : l .i < length (a .t4) = search needs in
+    omega (arith, next-fits (a .t4) (l .i) (a .n) short (c .before .before .before .before .before .loop-test .taken), l .inv .1, c .before .before .before .before .before .before .before .before .pre)
 
 add-i : tie.Need-add-i Inv-loop μ-loop
 add-i c = search needs
@@ -52,10 +60,17 @@ loop-less : tie.Need-loop-less Inv-loop μ-loop
 loop-less c = search needs
 
 loop-again : tie.Need-loop-again Inv-loop μ-loop
-loop-again c = let a = c .before .before .before .before .before .before .before .before .args in let l = c .before .before .before .before .before .before .loop in let short : l .i < length (a .t4) = search needs in let few : getD (a .t4) (l .i) zeroArgument .length ≤ 64 = omega (arith, next-fits (a .t4) (l .i) (a .n) short (c .before .before .before .before .before .loop-test .taken), c .before .before .before .before .before .before .before .before .pre) in (omega arith, rw (words-turn (a .t4) (l .i) zeroArgument short) (omega arith), copies-turn (a .t4) (l .i) short _ _ _ _ (c .before .before .before .gather .result) _ few (l .inv .2) (c .before .before .before .gather .ensures) (rw (l .inv .1) at (c .before .put-into .ensures)))
+loop-again c =
+    let a = c .before .before .before .before .before .before .before .before .args in
+    let l = c .before .before .before .before .before .before .loop in
+    let short : l .i < length (a .t4) = search needs in
+    let few : getD (a .t4) (l .i) zeroArgument .length ≤ 64 = omega (arith, next-fits (a .t4) (l .i) (a .n) short (c .before .before .before .before .before .loop-test .taken), c .before .before .before .before .before .before .before .before .pre) in
+    (omega arith, rw (words-turn (a .t4) (l .i) zeroArgument short) (omega arith), copies-turn (a .t4) (l .i) short _ _ _ _ (c .before .before .before .gather .result) _ few (l .inv .2) (c .before .before .before .gather .ensures) (rw (l .inv .1) at (c .before .put-into .ensures)))
 
 returns : tie.Need-returns Inv-loop μ-loop
-returns c = let e = le-antisymm (c .before .loop .inv .0) (c .loop-test .left) in rw e at (c .before .loop .inv .2)
+returns c =
+    let e = le-antisymm (c .before .loop .inv .0) (c .loop-test .left) in
+    rw e at (c .before .loop .inv .2)
 
 pub gather-copies-spec : {M : Type 1} → statement M
 gather-copies-spec =

@@ -49,7 +49,12 @@ store-pointer-requires-2 : tie.Need-store-pointer-requires-2 Inv-loop μ-loop
 store-pointer-requires-2 c κs = search needs
 
 add-at : tie.Need-add-at Inv-loop μ-loop
-add-at c = let a = c .before .before .before .before .before .before .before .before .before .before .before .before .before .args in let l = c .before .before .before .before .before .before .before .before .before .before .before .loop in let short : l .i < length (a .t6) = search needs in let less : l .i < a .n = c .before .before .before .before .before .before .before .before .before .before .loop-test .taken in omega (arith, next-fits (a .t6) (l .i) (a .n) short less, l .inv .1, c .before .before .before .before .before .before .before .before .before .before .before .before .before .pre)
+add-at c =
+    let a = c .before .before .before .before .before .before .before .before .before .before .before .before .before .args in
+    let l = c .before .before .before .before .before .before .before .before .before .before .before .loop in
+    let short : l .i < length (a .t6) = search needs in
+    let less : l .i < a .n = c .before .before .before .before .before .before .before .before .before .before .loop-test .taken in
+    omega (arith, next-fits (a .t6) (l .i) (a .n) short less, l .inv .1, c .before .before .before .before .before .before .before .before .before .before .before .before .before .pre)
 
 add-i : tie.Need-add-i Inv-loop μ-loop
 add-i c = search needs
@@ -58,13 +63,19 @@ loop-less : tie.Need-loop-less Inv-loop μ-loop
 loop-less c = search needs
 
 loop-again : tie.Need-loop-again Inv-loop μ-loop
-loop-again c = let a = c .before .before .before .before .before .before .before .before .before .before .before .before .before .args in let l = c .before .before .before .before .before .before .before .before .before .before .before .loop in let short : l .i < length (a .t6) = search needs in (omega arith, rw (words-turn (a .t6) (l .i) zeroArgument short) (omega arith), point-turn (a .t6) (l .i) short _ _ _ _ _ _ _ _ _ (l .inv .1) (l .inv .2) (c .before .before .before .before .before .before .before .store-pointer .ensures) (c .before .before .before .store-pointer2 .ensures))
+loop-again c =
+    let a = c .before .before .before .before .before .before .before .before .before .before .before .before .before .args in
+    let l = c .before .before .before .before .before .before .before .before .before .before .before .loop in
+    let short : l .i < length (a .t6) = search needs in
+    (omega arith, rw (words-turn (a .t6) (l .i) zeroArgument short) (omega arith), point-turn (a .t6) (l .i) short _ _ _ _ _ _ _ _ _ (l .inv .1) (l .inv .2) (c .before .before .before .before .before .before .before .store-pointer .ensures) (c .before .before .before .store-pointer2 .ensures))
 
 same-length : tie.Need-same-length Inv-loop μ-loop
 same-length c = same-long _ _ _ _ (c .before .loop .inv .2)
 
 returns : tie.Need-returns Inv-loop μ-loop
-returns c = let e = le-antisymm (c .before .loop .inv .0) (c .loop-test .left) in rw e at (c .before .loop .inv .2)
+returns c =
+    let e = le-antisymm (c .before .loop .inv .0) (c .loop-test .left) in
+    rw e at (c .before .loop .inv .2)
 
 pub point-list-spec : {M : Type 1} → statement M
 point-list-spec =

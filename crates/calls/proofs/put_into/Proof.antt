@@ -40,10 +40,15 @@ loop-less : tie.Need-loop-less Inv-loop μ-loop
 loop-less c = search needs
 
 loop-again : tie.Need-loop-again Inv-loop μ-loop
-loop-again c = let l = c .before .loop in let room : c .before .before .args .at + l .i < length (l .c) = omega arith in (search needs, search needs, into-turn _ _ (l .c) _ (c .before .before .args .t3) room (search needs) (l .inv .2))
+loop-again c =
+    let l = c .before .loop in
+    let room : c .before .before .args .at + l .i < length (l .c) = omega arith in
+    (search needs, search needs, into-turn _ _ (l .c) _ (c .before .before .args .t3) room (search needs) (l .inv .2))
 
 returns : tie.Need-returns Inv-loop μ-loop
-returns c = let e = le-antisymm (c .before .loop .inv .0) (c .loop-test .left) in rw e at (c .before .loop .inv .2)
+returns c =
+    let e = le-antisymm (c .before .loop .inv .0) (c .loop-test .left) in
+    rw e at (c .before .loop .inv .2)
 
 pub put-into-spec : {M : Type 1} → statement M
 put-into-spec =

@@ -46,7 +46,12 @@ loop-less : tie.Need-loop-less Inv-loop μ-loop
 loop-less c = search needs
 
 loop-again : tie.Need-loop-again Inv-loop μ-loop
-loop-again c = let l = now (c .before .before .before .before .before .before .before .before .before .before .before .before .before .before .args .numbers) in let i = c .before .before .before .before .before .before .before .before .before .before .before .loop .i in let inv = c .before .before .before .before .before .before .before .before .before .before .before .loop .inv in let t = number-turn (c .before .before .before .before .before .before .before .before .before .before .before .loop .out) _ _ l i _ _ _ (c .before .before .before .before .before .before .before .before .before .before .loop-test .taken) (c .before .before .before .before .before .before .before .put-number .ensures .0) (c .before .before .before .before .before .before .before .put-number .ensures .1) (c .before .before .before .separator .ensures) (c .before .before .put .ensures) in (search needs, omega (arith, c .before .before .before .before .before .before .before .put-number .ensures .0, few (getD l i 0), inv .1), t .0 ∙ inv .2, t .1 ∙ inv .3)
+loop-again c =
+    let l = now (c .before .before .before .before .before .before .before .before .before .before .before .before .before .before .args .numbers) in
+    let i = c .before .before .before .before .before .before .before .before .before .before .before .loop .i in
+    let inv = c .before .before .before .before .before .before .before .before .before .before .before .loop .inv in
+    let t = number-turn (c .before .before .before .before .before .before .before .before .before .before .before .loop .out) _ _ l i _ _ _ (c .before .before .before .before .before .before .before .before .before .before .loop-test .taken) (c .before .before .before .before .before .before .before .put-number .ensures .0) (c .before .before .before .before .before .before .before .put-number .ensures .1) (c .before .before .before .separator .ensures) (c .before .before .put .ensures) in
+    (search needs, omega (arith, c .before .before .before .before .before .before .before .put-number .ensures .0, few (getD l i 0), inv .1), t .0 ∙ inv .2, t .1 ∙ inv .3)
 
 same-length : tie.Need-same-length Inv-loop μ-loop
 same-length c = same-room _ _ _ _ _ _ (c .before .loop .inv .3)

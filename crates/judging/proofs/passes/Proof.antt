@@ -11,7 +11,10 @@ cast-len : tie.Need-cast-len
 cast-len c = search needs
 
 returns : tie.Need-returns
-returns c = let v = c .before .before .before .args .v in let h : v .len < endOf v = omega (arith, c .if1 .taken) in sym (lt-ltb _ _ h)
+returns c =
+    let v = c .before .before .before .args .v in
+    let h : v .len < endOf v = omega (arith, c .if1 .taken) in
+    sym (lt-ltb _ _ h)
 
 cast-result : tie.Need-cast-result
 cast-result c = search needs

@@ -26,7 +26,10 @@ returns : tie.Need-returns
 returns c = rw (c .argument-with .ensures)
 
 returns-2 : tie.Need-returns-2
-returns-2 c = let l : length (c .before .args .t4) ≡ 4 = search needs in let h : length (c .before .args .t4) ≤ c .before .args .k = omega arith in sym (set-out (c .before .args .t4) _ _ h)
+returns-2 c =
+    let l : length (c .before .args .t4) ≡ 4 = search needs in
+    let h : length (c .before .args .t4) ≤ c .before .args .k = omega arith in
+    sym (set-out (c .before .args .t4) _ _ h)
 
 pub arguments-with-spec : {M : Type 1} → statement M
 arguments-with-spec =

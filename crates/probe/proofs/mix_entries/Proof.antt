@@ -33,10 +33,17 @@ loop-less : tie.Need-loop-less Inv-loop μ-loop
 loop-less c = search needs
 
 loop-again : tie.Need-loop-again Inv-loop μ-loop
-loop-again c = let l = c .before .before .before .before .args .t2 in let h : c .before .before .before .loop .i < length l = search needs in (search needs, entry-turn l _ _ _ h (c .mix-entry .ensures) ∙ c .before .before .before .loop .inv .1)
+loop-again c =
+    let l = c .before .before .before .before .args .t2 in
+    let h : c .before .before .before .loop .i < length l = search needs in
+    (search needs, entry-turn l _ _ _ h (c .mix-entry .ensures) ∙ c .before .before .before .loop .inv .1)
 
 returns : tie.Need-returns Inv-loop μ-loop
-returns c = let l = c .before .before .args .t2 in let n : length l ≡ 32 = search needs in let h : length l ≤ c .before .loop .i = omega arith in sym (entry-done l _ _ h) ∙ c .before .loop .inv .1
+returns c =
+    let l = c .before .before .args .t2 in
+    let n : length l ≡ 32 = search needs in
+    let h : length l ≤ c .before .loop .i = omega arith in
+    sym (entry-done l _ _ h) ∙ c .before .loop .inv .1
 
 pub mix-entries-spec : {M : Type 1} → statement M
 mix-entries-spec =

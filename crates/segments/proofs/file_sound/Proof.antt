@@ -19,7 +19,9 @@ records-sound-requires c κs = search needs
 
 returns-2 : tie.Need-returns-2
 unfolding fileSound
-returns-2 c = let h : records (c .before .before .before .args .f .now) ≤ 192 = omega arith in rw (le-leb _ _ h) (cc)
+returns-2 c =
+    let h : records (c .before .before .before .args .f .now) ≤ 192 = omega arith in
+    rw (le-leb _ _ h) (cc)
 
 pub file-sound-spec : {M : Type 1} → statement M
 file-sound-spec = tie.close (tie.spec returns cast-records-sound records-sound-requires returns-2)

@@ -13,7 +13,10 @@ same-length c = search needs
 
 returns : tie.Need-returns
 unfolding outcome memoryAfter
-returns c = let a = c .before .before .before .before .before .args in let h = c .before .before .start .ensures in (h .0, (h .1, λ f v. began f (now (a .s)) (a .p) (a .ring) _ _ (h .1) (h .0) v))
+returns c =
+    let a = c .before .before .before .before .before .args in
+    let h = c .before .before .start .ensures in
+    (h .0, (h .1, λ f v. began f (now (a .s)) (a .p) (a .ring) _ _ (h .1) (h .0) v))
 
 pub begin-spec : {M : Type 1} → statement M
 begin-spec = tie.close (tie.spec start-requires same-length returns)

@@ -11,7 +11,10 @@ same-length : tie.Need-same-length
 same-length c = search needs
 
 returns : tie.Need-returns
-returns c = let a = c .before .before .before .before .before .before .args in let h = c .before .before .cross .ensures in (h .0, (h .1, extended (now (a .file)) (now (a .s)) (a .p) _ _ _ (h .1) (h .0)))
+returns c =
+    let a = c .before .before .before .before .before .before .args in
+    let h = c .before .before .cross .ensures in
+    (h .0, (h .1, extended (now (a .file)) (now (a .s)) (a .p) _ _ _ (h .1) (h .0)))
 
 pub cross-spec : {M : Type 1} → statement M
 cross-spec = tie.close (tie.spec cross-requires same-length returns)

@@ -13,7 +13,10 @@ same-length c = search needs
 
 returns : tie.Need-returns
 unfolding outcome memoryAfter reachVerdict
-returns c = let a = c .before .before .before .before .before .args in let h = c .before .before .write .ensures in (h .0, (h .1, λ f. extended f (now (a .s)) (a .p) _ _ _ (h .1) (h .0)))
+returns c =
+    let a = c .before .before .before .before .before .args in
+    let h = c .before .before .write .ensures in
+    (h .0, (h .1, λ f. extended f (now (a .s)) (a .p) _ _ _ (h .1) (h .0)))
 
 pub write-spec : {M : Type 1} → statement M
 write-spec = tie.close (tie.spec write-requires same-length returns)

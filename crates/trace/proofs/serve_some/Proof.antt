@@ -34,7 +34,9 @@ array-share-prefix-out : tie.Need-array-share-prefix-out
 array-share-prefix-out c = search needs
 
 slice-aggregate-write-all : tie.Need-slice-aggregate-write-all
-slice-aggregate-write-all c = let h : c .before .before .before .before .before .before .trace-records .result .at ≤ length (c .before .before .before .before .before .before .trace-records .last .1 .1 .1 .1 .0) = search needs in sym (length-take-le _ (c .before .before .before .before .before .before .trace-records .last .1 .1 .1 .1 .0) h)
+slice-aggregate-write-all c =
+    let h : c .before .before .before .before .before .before .trace-records .result .at ≤ length (c .before .before .before .before .before .before .trace-records .last .1 .1 .1 .1 .0) = search needs in
+    sym (length-take-le _ (c .before .before .before .before .before .before .trace-records .last .1 .1 .1 .1 .0) h)
 
 write-all-requires : tie.Need-write-all-requires
 write-all-requires c κs = search needs

@@ -31,7 +31,9 @@ same-length-3 : tie.Need-same-length-3
 same-length-3 c = search needs
 
 returns : tie.Need-returns
-returns c = let l : length (c .before .before .before .before .before .before .before .numbers-of .result) ≡ 14 = search needs in omega (arith, c .before .before .before .put-line .ensures .0, line-short (c .before .before .before .before .before .before .before .numbers-of .result) l)
+returns c =
+    let l : length (c .before .before .before .before .before .before .before .numbers-of .result) ≡ 14 = search needs in
+    omega (arith, c .before .before .before .put-line .ensures .0, line-short (c .before .before .before .before .before .before .before .numbers-of .result) l)
 
 pub trace-one-spec : {M : Type 1} → statement M
 trace-one-spec =

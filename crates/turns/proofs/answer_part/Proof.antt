@@ -16,7 +16,11 @@ same-length-2 : tie.Need-same-length-2
 same-length-2 c = search needs
 
 returns : tie.Need-returns
-returns c = let a = c .before .before .before .before .before .before .before .before .before .before .before .before .args in let w = c .before .before .before .before .before .answer-records in let e = none-left (now (a .file)) (now (a .input)) (now (a .s)) (a .p) (now (a .out)) _ _ _ (w .ensures .0) (w .ensures .1 .1 .0) (w .ensures .1 .1 .1) (c .if1 .taken) in (e .0, (omega (arith, w .ensures .1 .0), (e .1, e .2)))
+returns c =
+    let a = c .before .before .before .before .before .before .before .before .before .before .before .before .args in
+    let w = c .before .before .before .before .before .answer-records in
+    let e = none-left (now (a .file)) (now (a .input)) (now (a .s)) (a .p) (now (a .out)) _ _ _ (w .ensures .0) (w .ensures .1 .1 .0) (w .ensures .1 .1 .1) (c .if1 .taken) in
+    (e .0, (omega (arith, w .ensures .1 .0), (e .1, e .2)))
 
 cast-put-turn : tie.Need-cast-put-turn
 cast-put-turn c = search needs
@@ -34,7 +38,11 @@ same-length-4 : tie.Need-same-length-4
 same-length-4 c = search needs
 
 returns-2 : tie.Need-returns-2
-returns-2 c = let a = c .before .before .before .before .before .before .before .before .before .before .before .before .before .before .before .before .before .before .before .args in let w = c .before .before .before .before .before .before .before .before .before .before .before .before .answer-records in let e = some-left (now (a .file)) (now (a .input)) (now (a .s)) (a .p) (now (a .out)) _ _ _ (w .ensures .0) (w .ensures .1 .1 .0) (w .ensures .1 .1 .1) _ _ _ (c .before .before .before .before .before .before .before .if1 .left) (c .before .before .before .wrong .ensures) (c .before .before .put-turn .ensures .0) (c .before .before .put-turn .ensures .1) in (e .0, (omega (arith, w .ensures .1 .0, c .before .before .put-turn .ensures .0, line-short Wrong (c .before .before .before .wrong .result)), (e .1, e .2)))
+returns-2 c =
+    let a = c .before .before .before .before .before .before .before .before .before .before .before .before .before .before .before .before .before .before .before .args in
+    let w = c .before .before .before .before .before .before .before .before .before .before .before .before .answer-records in
+    let e = some-left (now (a .file)) (now (a .input)) (now (a .s)) (a .p) (now (a .out)) _ _ _ (w .ensures .0) (w .ensures .1 .1 .0) (w .ensures .1 .1 .1) _ _ _ (c .before .before .before .before .before .before .before .if1 .left) (c .before .before .before .wrong .ensures) (c .before .before .put-turn .ensures .0) (c .before .before .put-turn .ensures .1) in
+    (e .0, (omega (arith, w .ensures .1 .0, c .before .before .put-turn .ensures .0, line-short Wrong (c .before .before .before .wrong .result)), (e .1, e .2)))
 
 pub answer-part-spec : {M : Type 1} → statement M
 answer-part-spec =

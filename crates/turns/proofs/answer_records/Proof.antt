@@ -54,7 +54,9 @@ same-length-2 c = same-room _ _ _ _ _ _ (c .before .loop .inv .bytes)
 
 returns : tie.Need-returns Inv-loop μ-loop
 unfolding runState
-returns c = let e = ends _ _ _ _ _ _ _ _ _ _ _ (c .before .loop .inv) (c .loop-test .left) in (e .0, (omega (arith, c .before .loop .inv .small, c .before .loop .inv .within, c .before .before .before .before .before .before .pre), (e .1, e .2)))
+returns c =
+    let e = ends _ _ _ _ _ _ _ _ _ _ _ (c .before .loop .inv) (c .loop-test .left) in
+    (e .0, (omega (arith, c .before .loop .inv .small, c .before .loop .inv .within, c .before .before .before .before .before .before .pre), (e .1, e .2)))
 
 pub answer-records-spec : {M : Type 1} → statement M
 answer-records-spec =

@@ -22,7 +22,9 @@ same-length : tie.Need-same-length
 same-length c = search needs
 
 returns : tie.Need-returns
-returns c = let e = shown-line _ (c .before .before .before .before .before .before .before .before .before .before .args .o) _ _ _ (c .before .before .before .before .before .before .before .kind-of .ensures) (c .before .before .before .before .before .before .stacks-made .ensures) (c .before .before .before .before .before .numbers-of .ensures) in rw e at (c .before .before .put-line .ensures)
+returns c =
+    let e = shown-line _ (c .before .before .before .before .before .before .before .before .before .before .args .o) _ _ _ (c .before .before .before .before .before .before .before .kind-of .ensures) (c .before .before .before .before .before .before .stacks-made .ensures) (c .before .before .before .before .before .numbers-of .ensures) in
+    rw e at (c .before .before .put-line .ensures)
 
 pub put-turn-spec : {M : Type 1} → statement M
 put-turn-spec =
