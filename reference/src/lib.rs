@@ -7,7 +7,7 @@
 //! * `answer`: what a request gives back.
 //! * `state`: the store, the record and the file, and the entries start, write, look, cross.
 //! * `call`: is the call accepted? `build`: the frame of an accepted call. `back`: the return.
-//! * `program`: 24-byte requests and lines. `trace`: the further kinds of the test program.
+//! * `program`: 24-byte requests and lines. `trace`: the further kinds of the test program. `serve`: what both programs do.
 
 #![forbid(unsafe_code)]
 
@@ -19,5 +19,6 @@ pub mod memory;
 pub mod program;
 pub mod record;
 pub mod segments;
+pub mod serve;
 pub mod state;
 pub mod trace;

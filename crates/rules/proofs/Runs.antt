@@ -2,7 +2,7 @@
 -- Assumes nothing.
 use mathlib.Core.Path.{_≡_, refl, sym, ap, ap₂, _∙_, subst}
 use mathlib.Core.Logic.{⊎-elim, _⊎_, inl, inr}
-use mathlib.Core.Bool.{Bool, true, false, _&&_, _||_}
+use mathlib.Core.Bool.{Bool, true, false, _&&_, _||_, or-true, or-false}
 use mathlib.Core.List.{List, [], _∷_, _++_, map}
 use Prim.Native.Nat.{ℕ, zero, suc, _+_, _-_, _*_, _/_, _%_, _^_, _<_, _≤_}
 use native.Mathlib.Numerals.{add-one}
@@ -78,14 +78,6 @@ none-made k = let e : 0 / 2 ^ k ≡ 0 = div-eq-of-lt (pow-pos k) in rw e
 pub made-more : (made t k : ℕ) (b : Bool) → t < 64 → isMade made k ≡ b → isMade (withMade made t) k ≡ b || eqb k t
 made-more made t k b low e = go (ℕ-discrete k t)
   where
-    or-true : (x : Bool) → x || true ≡ true
-    or-true true = refl
-    or-true false = refl
-
-    or-false : (x : Bool) → x || false ≡ x
-    or-false true = refl
-    or-false false = refl
-
     go : Dec (k ≡ t) → isMade (withMade made t) k ≡ b || eqb k t
     go (yes q) = rw (eq-eqb k t q, or-true b, q) (with-made made t low)
     go (no q) = rw (ne-eqb k t q, or-false b) (with-other made t low k q ∙ e)
@@ -231,13 +223,9 @@ module _ (top : ℕ) (low : top ≤ 63) (f : List ℕ) (r : Ring) where
         entries = i .entries;
         count = i .count;
         serial = i .serial ∙ ap (λ (x : ℕ). x % 2 ^ 32) (let z : n ≡ n + 0 = omega arith in z);
-        made = λ k. i .made k ∙ or-none (in-set k);
+        made = λ k. i .made k ∙ sym (or-false (in-set k));
         size = i .size;
       }
-    where
-      or-none : (x : Bool) → x ≡ x || false
-      or-none true = refl
-      or-none false = refl
 
   -- a crossing, by its way
   keep-way : (s : State) (q : Request) (b : Bool) (u : List Call) (n : ℕ) (in-set : ℕ → Bool)
