@@ -1,5 +1,7 @@
 // Document 01, "Call": the argument list that a call hands over, which arguments are permitted, and the reasons for number 10.
 // Everything here is total: the list is read wherever it is said to lie, and the reasons say whether it may lie there.
+#![tactic(auto)]
+
 ghost use Rattle.std.specs.Prelude.{◌≡◌, ◌<◌, ◌^◌};
 ghost use Rattle.rules.specs.Tests.{pick, refuse_if, first};
 ghost use Rattle.rules.specs.Arguments.{group_at, group_or, arguments_at, in_stack, in_segment, in_own, is_permitted, argument_reason, earlier, list_reasons, words_in, handed_of};

@@ -1,4 +1,6 @@
 // Document 01, "Brackets": the ring that a call enters, or the reason of number 3, tried in the document's order.
+#![tactic(auto)]
+
 ghost use Rattle.std.specs.Prelude.{◌≡◌};
 ghost use Rattle.rules.specs.declared.Decision.TheVariants.{Refuse};
 ghost use Rattle.rules.specs.Tests.{refuse_if};

@@ -1,4 +1,6 @@
 // A call: judged, and on acceptance its frame, list, copies, base words and entry are built: document 01, "Call".
+#![tactic(auto)]
+
 ghost use Rattle.std.specs.Prelude.{◌≡◌, true, false, [], ◌∷◌, ◌++◌, ◌+◌, ◌*◌, ◌<◌, ◌≤◌, ltb, take, replicate};
 ghost use Rattle.rules.specs.Tests.{pick};
 ghost use Rattle.rules.specs.Memory.{puts, apply, words, spot, stack_length};

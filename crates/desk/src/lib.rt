@@ -1,5 +1,7 @@
 // What comes in and what goes out, of document 01, "The run program": a record of 24 bytes and what it asks, and a line of numbers.
 // Everything here is total: a byte past the end of the input is 0, and past the end of the lent room nothing is written.
+#![tactic(auto)]
+
 ghost use Rattle.std.specs.Prelude.{◌≡◌, ◌+◌, ◌<◌, ◌^◌, ◌≤◌, ◌%◌, length, set, take};
 ghost use Rattle.rules.specs.Tests.{pick, conj};
 ghost use Rattle.rules.specs.Segments.{byte_at, half_at, word_at};

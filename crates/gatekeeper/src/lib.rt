@@ -1,5 +1,7 @@
 // The gatekeeper's public entries: document 01, "Call", "Return" and "Start, write, look". Each takes the lent store and the process record and is total:
 // every refusal changes nothing and gives zeros as places. What they decide and store lies in the crates below.
+#![tactic(auto)]
+
 ghost use Rattle.std.specs.Prelude.{◌≡◌, []};
 ghost use Rattle.rules.specs.Made.{made_count};
 ghost use Rattle.rules.specs.Look.{IsPart};

@@ -1,5 +1,7 @@
 // What both programs read: the segment file, and bytes until the lent room is full or the input ends. No contract can say which
 // bytes a call of the system reads, so those here say how many there are at most.
+#![tactic(auto)]
+
 ghost use Rattle.std.specs.Prelude.{◌≤◌, length};
 
 // How many bytes came, and whether a read failed.

@@ -1,5 +1,7 @@
 // Deciding: what a call reads before it is judged, and the numbers of each entry in the document's order: document 01, "Call" and
 // "Numbers given back".
+#![tactic(auto)]
+
 ghost use Rattle.std.specs.Prelude.{◌≡◌, not, ◌+◌, ltb};
 ghost use Rattle.rules.specs.declared.Verdict.TheVariants.{Refused};
 ghost use Rattle.rules.specs.Tests.{pick, refuse_if};

@@ -1,4 +1,6 @@
 // The set of stacks already made, one bit a ring, and the serial of accepted calls: document 01, "Process record".
+#![tactic(auto)]
+
 ghost use Rattle.std.specs.Prelude.{◌≡◌};
 ghost use Rattle.rules.specs.Made.{is_made, with_made, made_count, next_serial};
 

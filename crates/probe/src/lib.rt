@@ -1,5 +1,7 @@
 // What the program `trace` adds to the run program, for tests alone: docs/TRACE.md. Its further kinds, a field of the record that
 // becomes a number, and the digests. The run program uses nothing of it.
+#![tactic(auto)]
+
 ghost use Rattle.std.specs.Prelude.{◌≡◌, ◌+◌, ◌*◌, get_or, set};
 ghost use Rattle.rules.specs.Tests.{pick};
 ghost use Rattle.rules.specs.Record.{zero_argument};

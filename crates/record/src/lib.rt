@@ -1,4 +1,6 @@
 // The process record by value: whether it is sound, adding an entry, striking the newest: document 01, "Process record".
+#![tactic(auto)]
+
 ghost use Rattle.std.specs.Prelude.{◌≡◌, ◌&&◌, true, ◌-◌, ◌<◌, ◌≤◌, ◌^◌};
 ghost use Rattle.rules.specs.Tests.{pick, all_from};
 ghost use Rattle.rules.specs.Record.{zero_entry, argument_sound, argument_is_zero, arguments_sound, lengths, inward_sound, outward_sound, open_sound, opened, chained, entry_is_zero, zero_at, process_sound, newest, added, struck};

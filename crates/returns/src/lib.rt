@@ -1,5 +1,7 @@
 // Document 01, "Return": the newest entry is struck and zeroed, the left stack and the old stack are set back, and the arguments of
 // an outward call are copied back. Everything comes from the entry; of the left stack only the words of the copies are read.
+#![tactic(auto)]
+
 ghost use Rattle.std.specs.Prelude.{◌≡◌, ◌+◌, ◌≤◌, take};
 ghost use Rattle.rules.specs.Memory.{apply, stack_length};
 ghost use Rattle.rules.specs.Record.{newest, struck};

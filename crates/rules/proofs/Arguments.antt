@@ -1,23 +1,22 @@
 -- Laws of specs/Arguments.antt: what a list that gives no reason for 10 says of its arguments, and how long its words are.
 -- Assumes nothing.
-use mathlib.Core.Path.{◌≡◌, refl, sym, ap, ◌∙◌}
-use mathlib.Core.Bool.{Bool, true, false, ◌&&◌, ◌||◌, not}
+use mathlib.Core.Path.{◌≡◌, refl, sym, ◌∙◌}
+use mathlib.Core.Bool.{Bool, true, false, ◌&&◌}
 use mathlib.Core.List.{List, [], ◌∷◌, ◌++◌}
 use Prim.Native.Nat.{ℕ, zero, suc, ◌+◌, ◌*◌, ◌<◌, ◌≤◌}
 use native.Mathlib.Numerals.{add-one}
-use native.Mathlib.Nat.{not-suc-le-zero, add_assoc}
+use native.Mathlib.Nat.{add_assoc}
 use native.Mathlib.Omega.{arith}
-use lib.Dec.{leb, ltb, eqb}
+use lib.Dec.{leb, eqb}
 use lib.ListN.{length, take, get_or, length-append}
 use lib.Seq.{take-suc}
 use borrow.Author.Tests.{leb-true, ltb-false, eqb-true, eqb-false, not-false, lt-ltb}
 use Rattle.rules.specs.declared.Ring.{Ring}
 use Rattle.rules.specs.declared.Argument.{Argument}
-use Rattle.rules.specs.declared.Handed.{Handed}
-use Rattle.rules.specs.Tests.{pick, refuse_if, first}
-use Rattle.rules.specs.Memory.{spot, word, words}
-use Rattle.rules.specs.Record.{zero_argument, placed}
-use Rattle.rules.specs.Arguments.{group_at, group_or, arguments_at, is_permitted, argument_reasons, argument_reason, member_reason, earlier, list_reasons, list_reason, words_in, handed_of, copies_of, pointing}
+use Rattle.rules.specs.Tests.{pick}
+use Rattle.rules.specs.Memory.{spot, words}
+use Rattle.rules.specs.Record.{placed}
+use Rattle.rules.specs.Arguments.{group_at, is_permitted, argument_reasons, argument_reason, member_reason, earlier, list_reasons, list_reason, words_in, copies_of, pointing}
 use Rattle.rules.proofs.Tests.{and_l, and_r, passed}
 use Rattle.rules.proofs.Memory.{length-words}
 

@@ -1,33 +1,29 @@
 -- What an accepted call says of the store, the target and the argument list (specs/Call.antt). Assumes nothing.
-use mathlib.Core.Path.{◌≡◌, refl, sym, ap, ◌∙◌}
-use mathlib.Core.Logic.{⊎_elim}
+use mathlib.Core.Path.{◌≡◌, refl}
 use mathlib.Core.Bool.{Bool, true, false, ◌&&◌, ◌||◌, not}
-use mathlib.Core.List.{List, [], ◌∷◌}
+use mathlib.Core.List.{List}
 use Prim.Native.Nat.{ℕ, zero, suc, ◌+◌, ◌*◌, ◌<◌, ◌≤◌}
 use native.Mathlib.Decide.{dec_lt}
 use native.Mathlib.Omega.{arith}
-use lib.Dec.{leb, ltb, eqb}
+use lib.Dec.{leb, eqb}
 use lib.ListN.{length, take}
 use borrow.Author.Tests.{lt-ltb, le-ltb, leb-true}
 use Rattle.rules.specs.declared.Ring.{Ring}
-use Rattle.rules.specs.declared.Argument.{Argument}
 use Rattle.rules.specs.declared.Process.{Process}
 use Rattle.rules.specs.declared.Request.{Request}
-use Rattle.rules.specs.declared.Decision.TheVariants.{Enter}
 use Rattle.rules.specs.declared.Seen.{Seen}
 use Rattle.rules.specs.declared.Verdict.TheVariants.{Accepted}
-use Rattle.rules.specs.Tests.{pick}
 use Rattle.rules.specs.Memory.{spot, word, stack_length}
 use Rattle.rules.specs.Segments.{file_sound}
 use Rattle.rules.specs.Record.{placed, process_sound}
-use Rattle.rules.specs.Arguments.{group_at, group_or, arguments_at, words_in, handed_of}
+use Rattle.rules.specs.Arguments.{group_or, arguments_at, words_in, handed_of}
 use Rattle.rules.specs.Made.{is_made}
 use Rattle.rules.specs.Call.{goes_outward, entered, decision, handed, made_or, base_sound, used, fresh, seen, to, arguments, call_verdict}
 use Rattle.rules.proofs.Tests.{and_l, and_r}
 use Rattle.rules.proofs.Memory.{length_told}
 use Rattle.rules.proofs.Segments.{segment_facts}
-use Rattle.rules.proofs.Bracket.{Out, In, Entered, Aimed, aimed_at, entered_other, entered_below}
-use Rattle.rules.proofs.Arguments.{Fine, Listing, list_facts}
+use Rattle.rules.proofs.Bracket.{Aimed, aimed_at, entered_other, entered_below}
+use Rattle.rules.proofs.Arguments.{Listing, list_facts}
 use Rattle.rules.proofs.Verdicts.{Judged, call_facts, call_accepts, enters-ring}
 
 -- ---- the words of a list of n arguments

@@ -1,22 +1,19 @@
 -- The three sentences that the control room would say, and one on the spare words, each a short theorem from demand 3. Assumes nothing.
 use mathlib.Core.Path.{◌≡◌, refl, sym, ap, ◌∙◌}
 use mathlib.Core.Logic.{⊎_elim, ◌⊎◌, inl, inr}
-use mathlib.Core.Bool.{Bool, true, false, false≢true}
-use mathlib.Core.List.{List, [], ◌∷◌}
-use Prim.Native.Nat.{ℕ, ◌+◌, ◌*◌, ◌<◌, ◌≤◌}
+use mathlib.Core.Bool.{true, false, false≢true}
+use mathlib.Core.List.{List, ◌∷◌}
+use Prim.Native.Nat.{ℕ, ◌<◌, ◌≤◌}
 use native.Mathlib.Omega.{arith}
-use lib.ListN.{length, take}
+use lib.ListN.{take}
 use Rattle.rules.specs.declared.Ring.{Ring}
-use Rattle.rules.specs.declared.Process.{Process}
 use Rattle.rules.specs.declared.Request.{Request}
 use Rattle.rules.specs.declared.Verdict.TheVariants.{Accepted}
 use Rattle.rules.specs.Memory.{spot, word, stack_length}
 use Rattle.rules.specs.Made.{is_made}
 use Rattle.rules.specs.Record.{newest}
-use Rattle.rules.specs.Call.{call_verdict, to}
-use Rattle.rules.specs.Return.{return_verdict, return_answer}
-use Rattle.rules.specs.Step.{Event, starts, crosses, writes, looks, State, returns, verdict, outcome, step}
-use Rattle.rules.specs.History.{Done, begins, Run, Call, unstruck, into, sees, new_ring, May, written, call_left, call_frame, call_list, call_copies, call_base, call_making, return_left, return_level, return_argument, Covers, Restored, ByGate, Falls, gate, back, Demand3}
+use Rattle.rules.specs.Step.{Event, crosses, writes, State, returns, verdict, outcome, step}
+use Rattle.rules.specs.History.{Done, begins, Run, Call, unstruck, into, sees, new_ring, May, written, call_left, call_frame, call_list, call_copies, call_base, call_making, return_left, return_level, return_argument, Covers, Restored, ByGate, Falls, gate, back}
 use Rattle.rules.proofs.Called.{called, fresh_high}
 use Rattle.rules.proofs.Extent.{lands}
 use Rattle.rules.proofs.Runs.{returned, run_long}

@@ -3,7 +3,7 @@ use mathlib.Core.Path.{◌≡◌, refl, sym, ap, ◌∙◌, subst}
 use mathlib.Core.Logic.{⊎_elim, ◌⊎◌, inl, inr}
 use mathlib.Core.Bool.{Bool, true, false}
 use mathlib.Core.List.{List, [], ◌∷◌, ◌++◌}
-use Prim.Native.Nat.{ℕ, suc, ◌+◌, ◌*◌, ◌<◌, ◌≤◌}
+use Prim.Native.Nat.{ℕ, ◌+◌, ◌*◌, ◌<◌, ◌≤◌}
 use native.Mathlib.Nat.{lt_irrefl, suc-mul, mul-le-mul_right}
 use native.Mathlib.Omega.{arith}
 use lib.ListN.{length, take}
@@ -12,24 +12,21 @@ use Rattle.rules.specs.declared.Entry.{Entry}
 use Rattle.rules.specs.declared.Process.{Process}
 use Rattle.rules.specs.declared.Request.{Request}
 use Rattle.rules.specs.declared.Answer.{Answer}
-use Rattle.rules.specs.declared.Outcome.{Outcome}
 use Rattle.rules.specs.declared.Verdict.{Verdict}
 use Rattle.rules.specs.declared.Verdict.TheVariants.{Accepted, Refused}
 use Rattle.rules.specs.Tests.{pick}
 use Rattle.rules.specs.Memory.{spot, word, Store, puts, apply, stack_length}
 use Rattle.rules.specs.Record.{process_sound, newest, struck}
-use Rattle.rules.specs.Answer.{outcome_by}
-use Rattle.rules.specs.Call.{seen, to, call_verdict, call_stores, call_entry, call_next}
+use Rattle.rules.specs.Call.{to, call_verdict, call_stores, call_entry, call_next}
 use Rattle.rules.specs.Return.{back_stores, return_verdict, return_stores, return_answer}
-use Rattle.rules.specs.Step.{Event, starts, crosses, writes, looks, State, returns, reach_verdict, verdict, ground, stores, next, given, outcome, memory_after, step}
-use Rattle.rules.specs.History.{Done, begins, Run, Call, unstruck, calls_in, sees, saw_in, into, entry_in, ring_of, is_entered, Covers, May, written, Restored, ByGate, Falls, gate, back, Demand3}
-use Rattle.rules.proofs.Memory.{Each, nothing, more, each_puts, framed, apply-append, length-apply, inside, apart}
-use Rattle.rules.proofs.Record.{newest_is, Held}
-use Rattle.rules.proofs.Bracket.{Out, In, Entered, Aimed}
-use Rattle.rules.proofs.Verdicts.{Reached, reach_facts}
-use Rattle.rules.proofs.Called.{Called, called}
-use Rattle.rules.proofs.Extent.{each_call, each_return, each_back, Lands, lands}
-use Rattle.rules.proofs.Runs.{Top, top_of, added_is, struck_is, accepted_memory, accepted_process, refused-process, refused-step, Returned, returned, Inv, kept}
+use Rattle.rules.specs.Step.{Event, starts, crosses, writes, looks, State, returns, reach_verdict, verdict, ground, stores, next, outcome, memory_after, step}
+use Rattle.rules.specs.History.{Done, begins, Run, Call, unstruck, calls_in, sees, into, entry_in, ring_of, is_entered, May, written, Restored, Falls, gate, back, Demand3}
+use Rattle.rules.proofs.Memory.{Each, nothing, each_puts, framed, apply-append, length-apply, inside}
+use Rattle.rules.proofs.Record.{newest_is}
+use Rattle.rules.proofs.Verdicts.{reach_facts}
+use Rattle.rules.proofs.Called.{called}
+use Rattle.rules.proofs.Extent.{each_call, each_return, each_back, lands}
+use Rattle.rules.proofs.Runs.{top_of, added_is, struck_is, accepted_memory, accepted_process, refused-process, refused-step, Returned, returned, Inv, kept}
 
 module _ (top : ℕ) (f : List ℕ) where
   -- ---- claim 5: the words that change

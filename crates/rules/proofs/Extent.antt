@@ -1,37 +1,34 @@
 -- The extent of what a crossing stores: each store of an accepted call or return is one of the named words (specs/History.antt, May),
 -- and lies within its stack. Assumes nothing.
-use mathlib.Core.Path.{◌≡◌, refl, sym, ap, ◌∙◌}
+use mathlib.Core.Path.{◌≡◌, refl, ap, ◌∙◌}
 use mathlib.Core.Bool.{Bool, true, false}
-use mathlib.Core.List.{List, [], ◌∷◌, ◌++◌}
+use mathlib.Core.List.{List, [], ◌∷◌}
 use Prim.Native.Nat.{ℕ, zero, suc, ◌+◌, ◌*◌, ◌<◌, ◌≤◌}
-use native.Mathlib.Nat.{not-suc-le-zero, add-zero}
+use native.Mathlib.Nat.{not-suc-le-zero}
 use native.Mathlib.Omega.{arith}
 use lib.Dec.{leb, ltb, eqb}
 use lib.ListN.{length, get_or, take}
 use lib.Seq.{length-take-le}
-use borrow.Author.Tests.{leb-true, eqb-true, ltb-true, ltb-false, lt-ltb}
+use borrow.Author.Tests.{leb-true, eqb-true, ltb-false}
 use Rattle.rules.specs.declared.Ring.{Ring}
 use Rattle.rules.specs.declared.Level.{Level}
 use Rattle.rules.specs.declared.Argument.{Argument}
 use Rattle.rules.specs.declared.Entry.{Entry}
-use Rattle.rules.specs.declared.Process.{Process}
 use Rattle.rules.specs.declared.Request.{Request}
 use Rattle.rules.specs.declared.Seen.{Seen}
-use Rattle.rules.specs.declared.Verdict.TheVariants.{Accepted}
 use Rattle.rules.specs.Tests.{pick}
-use Rattle.rules.specs.Rings.{larger_of}
-use Rattle.rules.specs.Memory.{spot, word, words, up_to, Store, puts, stack_length, made_word, make_stack}
-use Rattle.rules.specs.Made.{is_made, next_serial}
-use Rattle.rules.specs.Record.{zero_argument, argument_at, arguments_sound, lengths, inward_sound, outward_sound, newest}
-use Rattle.rules.specs.Arguments.{arguments_at, handed_of, words_in, copies_of, pointing}
-use Rattle.rules.specs.Call.{goes_outward, handed, seen, to, level_of, copies_at, end_of, arguments, making, frame_stores, base_stores, list_words, copies, call_stores}
+use Rattle.rules.specs.Memory.{spot, words, up_to, puts, stack_length, made_word, make_stack}
+use Rattle.rules.specs.Made.{is_made}
+use Rattle.rules.specs.Record.{zero_argument, lengths, inward_sound, outward_sound, newest}
+use Rattle.rules.specs.Arguments.{handed_of, copies_of, pointing}
+use Rattle.rules.specs.Call.{goes_outward, handed, seen, to, copies_at, end_of, arguments, making, frame_stores, base_stores, list_words, copies, call_stores}
 use Rattle.rules.specs.Return.{back_stores, return_stores}
-use Rattle.rules.specs.Step.{Event, crosses, State, returns}
+use Rattle.rules.specs.Step.{crosses, State, returns}
 use Rattle.rules.specs.History.{sees, new_ring, May, call_left, call_frame, call_list, call_copies, call_base, call_making, return_left, return_level, return_argument, Covers, here, there}
-use Rattle.rules.proofs.Memory.{Each, nothing, more, each_append, each_one, each_two, each_puts, length-words, length-up_to}
+use Rattle.rules.proofs.Memory.{Each, nothing, each_append, each_one, each_two, each_puts, length-words, length-up_to}
 use Rattle.rules.proofs.Arguments.{length-copies, length-pointing}
 use Rattle.rules.proofs.Tests.{and_l}
-use Rattle.rules.proofs.Record.{Held, Lent, lent}
+use Rattle.rules.proofs.Record.{Held, lent}
 use Rattle.rules.proofs.Called.{Called, copied_words}
 
 -- ---- a call

@@ -9,7 +9,6 @@ use lib.Dec.{leb, ltb}
 use lib.ListN.{length, take}
 use borrow.Author.Tests.{lt-ltb, le-ltb}
 use Rattle.rules.specs.declared.Ring.{Ring}
-use Rattle.rules.specs.declared.Level.{Level}
 use Rattle.rules.specs.declared.Argument.{Argument}
 use Rattle.rules.specs.declared.Entry.{Entry}
 use Rattle.rules.specs.declared.Process.{Process}
@@ -23,9 +22,9 @@ use Rattle.rules.specs.Memory.{spot, words, Store, puts}
 use Rattle.rules.specs.Bracket.{goes_out, decision_of}
 use Rattle.rules.specs.Call.{level_of, call_answer}
 use Rattle.rules.specs.Return.{back_stores, return_stores}
-use Rattle.rules.specs.Step.{Event, crosses, State, returns, judged_reach, verdict, given, memory_after, step}
+use Rattle.rules.specs.Step.{Event, crosses, State, returns, judged_reach, verdict, given, memory_after}
 use Rattle.rules.proofs.Memory.{length-words}
-use Rattle.rules.proofs.Bracket.{Out, In, Entered, entered}
+use Rattle.rules.proofs.Bracket.{entered}
 use Rattle.rules.proofs.Verdicts.{reach_facts}
 use Rattle.rules.proofs.Runs.{refused-step}
 

@@ -1,17 +1,17 @@
 -- Laws of specs/Made.antt: a ring added is in and the others are as they were, the count of bits is the number of made rings,
 -- one more where a ring is added, and the serial is a number of calls modulo 2 ^ 32. Assumes nothing.
-use mathlib.Core.Path.{◌≡◌, refl, sym, ap, ap₂, ◌∙◌, subst}
+use mathlib.Core.Path.{◌≡◌, refl, sym, ap, ap₂, ◌∙◌}
 use mathlib.Core.Bool.{Bool, true, false}
 use Prim.Native.Nat.{ℕ, zero, suc, ◌+◌, ◌-◌, ◌*◌, ◌/◌, ◌%◌, ◌^◌, ◌≤◌, ◌<◌}
 use native.Mathlib.Nat.{mod-lt, mod-add-mod, add_comm, one-mul, add-mod_right, mod-eq_of_lt, div-eq_of_lt}
 use native.Mathlib.Decide.{dec_lt}
 use native.Mathlib.Numerals.{one-add}
 use native.Mathlib.Omega.{arith}
-use lib.Dec.{leb, eqb, lit<}
+use lib.Dec.{eqb, lit<}
 use lib.Arith.{digits_lt}
 use lib.Pow.{pow_pos, pow-add, pow_mono, split, high, low, mod-pow-add, field, mod-mod-pow, shr-shr, shr_lt, shl_exact}
 use lib.Count.{ones, ones_cat}
-use borrow.Author.Tests.{eq-eqb, ne_eqb, eqb-false, eqb-true, lt-leb, le-leb}
+use borrow.Author.Tests.{eqb-false, lt-leb, le-leb}
 use Rattle.rules.specs.Tests.{pick, how_many}
 use Rattle.rules.proofs.Tests.{one_more}
 use Rattle.rules.specs.Made.{next_serial, is_made, with_made, made_count}

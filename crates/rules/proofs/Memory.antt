@@ -3,14 +3,14 @@ use mathlib.Core.Path.{◌≡◌, refl, sym, ap, ◌∙◌}
 use mathlib.Core.Bool.{Bool, true, false, ◌&&◌}
 use mathlib.Core.Logic.{⊎_elim, ◌⊎◌, inl, inr}
 use mathlib.Core.List.{List, [], ◌∷◌, ◌++◌}
-use Prim.Native.Nat.{ℕ, zero, suc, ◌+◌, ◌-◌, ◌*◌, ◌/◌, ◌%◌, ◌<◌, ◌≤◌}
+use Prim.Native.Nat.{ℕ, zero, suc, ◌+◌, ◌*◌, ◌/◌, ◌%◌, ◌<◌, ◌≤◌}
 use native.Mathlib.Numerals.{add-one}
 use native.Mathlib.Nat.{suc-add, add-suc, add-zero, zero-add, add_assoc, not-suc-le-zero, suc-mul, mul-le-mul_right, eq-or-lt_of_le, le_of_suc-le-suc}
-use native.Mathlib.Decide.{dec_lt, dec_le, ℕ_discrete}
+use native.Mathlib.Decide.{dec_lt, ℕ_discrete}
 use native.Mathlib.Omega.{arith}
 use lib.Dec.{leb, eqb}
-use lib.ListN.{length, get_or, set, take, drop, replicate, length-drop, length-set, length-append, length-replicate, get_or-append}
-use lib.Seq.{take-suc, take-suc-set, length-take-le, get_or-drop, get_or_at, get_or-set_other, get_or-set_same}
+use lib.ListN.{length, get_or, set, take, length-set, length-append, get_or-append}
+use lib.Seq.{take-suc, length-take-le, get_or_at, get_or-set_other, get_or-set_same}
 use borrow.Author.Tests.{leb-true, eqb-true}
 use Rattle.rules.specs.Tests.{pick}
 use Rattle.rules.specs.Memory.{spot, word, up_to, word_from, words, Store, puts, apply, permitted, stack_length, made_word, make_stack}

@@ -1,20 +1,20 @@
 -- Laws of specs/Record.antt: the walk over the open entries, and what soundness says of an open entry. Assumes nothing.
-use mathlib.Core.Path.{◌≡◌, refl, sym, ap, ◌∙◌}
-use mathlib.Core.Bool.{Bool, true, false, ◌&&◌, not, and_assoc, and-true}
+use mathlib.Core.Path.{◌≡◌, refl}
+use mathlib.Core.Bool.{Bool, true, false, ◌&&◌, and_assoc, and-true}
 use mathlib.Core.List.{List, [], ◌∷◌}
-use Prim.Native.Nat.{ℕ, zero, suc, ◌+◌, ◌-◌, ◌*◌, ◌<◌, ◌≤◌}
+use Prim.Native.Nat.{ℕ, zero, suc, ◌+◌, ◌-◌, ◌<◌, ◌≤◌}
 use native.Mathlib.Nat.{not-suc-le-zero}
 use native.Mathlib.Decide.{ℕ_discrete}
-use borrow.Author.Tests.{leb-true, eqb-true, eqb-false, ltb-false, lt-ltb, le-leb, not-true, eq-eqb, ne_eqb}
+use borrow.Author.Tests.{leb-true, eqb-true, eqb-false, lt-ltb, le-leb, not-true, eq-eqb, ne_eqb}
 use native.Mathlib.Omega.{arith}
 use lib.Dec.{leb, ltb, eqb}
 use lib.ListN.{get_or}
 use Rattle.rules.specs.declared.Ring.{Ring}
 use Rattle.rules.specs.declared.Entry.{Entry}
 use Rattle.rules.specs.declared.Process.{Process}
-use Rattle.rules.specs.Tests.{pick, conj, all_from}
+use Rattle.rules.specs.Tests.{pick, all_from}
 use Rattle.rules.specs.Made.{is_made}
-use Rattle.rules.specs.Record.{no_entry, zero_entry, argument_at, placed, argument_sound, argument_is_zero, argument_rule, arguments_sound, lengths, inward_sound, outward_sound, open_tests, open_sound, opened, chained, zero_at, process_sound, newest}
+use Rattle.rules.specs.Record.{no_entry, argument_at, placed, argument_sound, argument_rule, arguments_sound, inward_sound, outward_sound, open_tests, open_sound, opened, chained, zero_at, process_sound, newest}
 use Rattle.rules.proofs.Tests.{and_l, and_r, conj_at, below_at}
 
 -- ---- the walk from the newest entry to the oldest

@@ -1,25 +1,22 @@
 -- What every run keeps: ring, entries, count, serial and made set against the history (claims 1 and 2 of specs/History.antt).
 -- Assumes nothing.
-use mathlib.Core.Path.{◌≡◌, refl, sym, ap, ap₂, ◌∙◌, subst}
-use mathlib.Core.Logic.{⊎_elim, ◌⊎◌, inl, inr}
-use mathlib.Core.Bool.{Bool, true, false, ◌&&◌, ◌||◌, or-true, or-false}
-use mathlib.Core.List.{List, [], ◌∷◌, ◌++◌, map}
+use mathlib.Core.Path.{◌≡◌, refl, sym, ap, ap₂, ◌∙◌}
+use mathlib.Core.Bool.{Bool, true, false, ◌||◌, or-true, or-false}
+use mathlib.Core.List.{List, [], ◌∷◌, map}
 use Prim.Native.Nat.{ℕ, zero, suc, ◌+◌, ◌-◌, ◌*◌, ◌/◌, ◌%◌, ◌^◌, ◌<◌, ◌≤◌}
 use native.Mathlib.Numerals.{add-one}
 use native.Mathlib.Nat.{not-suc-le-zero, div-eq_of_lt}
 use native.Mathlib.Decide.{ℕ_discrete}
 use native.Mathlib.Omega.{arith}
-use lib.Dec.{leb, ltb, eqb}
+use lib.Dec.{eqb}
 use lib.Pow.{pow_pos}
-use lib.ListN.{length, get_or, set, replicate, length-set, length-replicate}
+use lib.ListN.{length, get_or, set, length-set, length-replicate}
 use lib.Seq.{get_or-set_same, get_or-set_other}
-use borrow.Author.Tests.{lt-ltb, le-leb, eq-eqb, ne_eqb, eqb-true}
+use borrow.Author.Tests.{lt-ltb, le-leb, eq-eqb, ne_eqb}
 use Rattle.rules.specs.declared.Ring.{Ring}
 use Rattle.rules.specs.declared.Entry.{Entry}
 use Rattle.rules.specs.declared.Process.{Process}
 use Rattle.rules.specs.declared.Request.{Request}
-use Rattle.rules.specs.declared.Seen.{Seen}
-use Rattle.rules.specs.declared.Outcome.{Outcome}
 use Rattle.rules.specs.declared.Verdict.{Verdict}
 use Rattle.rules.specs.declared.Verdict.TheVariants.{Accepted, Refused}
 use Rattle.rules.specs.Tests.{pick}
@@ -28,15 +25,15 @@ use Rattle.rules.specs.Made.{is_made, with_made, next_serial}
 use Rattle.rules.specs.Segments.{file_sound}
 use Rattle.rules.specs.Record.{no_entry, zero_entry, opened, process_sound, newest, added, struck}
 use Rattle.rules.specs.Answer.{memory_by, outcome_by}
-use Rattle.rules.specs.Call.{seen, to, call_verdict, call_entry, call_next}
+use Rattle.rules.specs.Call.{to, call_verdict, call_entry, call_next}
 use Rattle.rules.specs.Return.{return_verdict}
-use Rattle.rules.specs.Step.{Event, starts, crosses, writes, looks, State, returns, judged_start, start_next, verdict, ground, stores, next, given, outcome, memory_after, step}
-use Rattle.rules.specs.History.{Done, begins, Run, begun, then, Call, tail, strike, unstruck, is_call, calls_in, sees, into, entry_in, ring_of, enters, is_entered}
+use Rattle.rules.specs.Step.{Event, starts, crosses, writes, looks, State, returns, start_next, verdict, ground, stores, next, given, outcome, memory_after, step}
+use Rattle.rules.specs.History.{Done, begins, Run, begun, then, Call, tail, unstruck, calls_in, sees, entry_in, ring_of, is_entered}
 use Rattle.rules.proofs.Made.{with_made_lem, with_other, serial-step}
 use Rattle.rules.proofs.Memory.{length_told, length-apply}
-use Rattle.rules.proofs.Record.{Whole, whole, newest_is, newest_open, Held, held}
+use Rattle.rules.proofs.Record.{whole, newest_is, newest_open, Held, held}
 use Rattle.rules.proofs.Verdicts.{JudgedBack, return_facts, start_facts}
-use Rattle.rules.proofs.Called.{Called, called}
+use Rattle.rules.proofs.Called.{called}
 
 -- ---- the open entries of an array
 

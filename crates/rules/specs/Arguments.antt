@@ -1,12 +1,11 @@
 -- Document 01, "Call": the argument list, when an argument is permitted, and the reasons for 10. Assumes nothing.
-use Rattle.std.specs.Prelude.{Bool, true, false, ◌&&◌, ◌||◌, not, List, [], ◌∷◌, ◌++◌, ℕ, zero, suc, ◌+◌, ◌*◌, leb, ltb, eqb, take}
+use Rattle.std.specs.Prelude.{Bool, false, ◌&&◌, ◌||◌, not, List, [], ◌∷◌, ◌++◌, ℕ, ◌+◌, ◌*◌, leb, ltb, eqb}
 use Rattle.rules.specs.declared.Ring.{Ring}
 use Rattle.rules.specs.declared.Argument.{Argument}
-use Rattle.rules.specs.declared.Segment.{Segment}
 use Rattle.rules.specs.declared.Lookup.{Lookup}
 use Rattle.rules.specs.declared.Lookup.TheVariants.{Listed, Unlisted}
 use Rattle.rules.specs.declared.Handed.{Handed}
-use Rattle.rules.specs.Tests.{pick, conj, refuse_if, Refusal, first}
+use Rattle.rules.specs.Tests.{pick, Refusal, first}
 use Rattle.rules.specs.Memory.{spot, word, words}
 use Rattle.rules.specs.Made.{is_made}
 use Rattle.rules.specs.Segments.{lookup_of, reads, writes}

@@ -1,5 +1,5 @@
 -- Document 01, "Brackets (003)" and the reasons for 3 of "Numbers given back", in their order. Assumes nothing.
-use Rattle.std.specs.Prelude.{Bool, true, false, ◌&&◌, not, List, [], ◌∷◌, ℕ, leb, ltb, eqb}
+use Rattle.std.specs.Prelude.{Bool, ◌&&◌, not, List, [], ◌∷◌, ℕ, leb, ltb, eqb}
 use Rattle.rules.specs.declared.Ring.{Ring}
 use Rattle.rules.specs.declared.Segment.{Segment}
 use Rattle.rules.specs.declared.Lookup.{Lookup}

@@ -5,7 +5,6 @@ use Rattle.rules.specs.declared.Level.{Level}
 use Rattle.rules.specs.declared.Argument.{Argument}
 use Rattle.rules.specs.declared.Entry.{Entry}
 use Rattle.rules.specs.declared.Process.{Process}
-use Rattle.rules.specs.declared.Segment.{Segment}
 use Rattle.rules.specs.declared.Lookup.{Lookup}
 use Rattle.rules.specs.declared.Lookup.TheVariants.{Listed, Unlisted}
 use Rattle.rules.specs.declared.Decision.{Decision}
@@ -14,16 +13,16 @@ use Rattle.rules.specs.declared.Request.{Request}
 use Rattle.rules.specs.declared.Handed.{Handed}
 use Rattle.rules.specs.declared.Seen.{Seen}
 use Rattle.rules.specs.declared.Verdict.{Verdict}
-use Rattle.rules.specs.declared.Verdict.TheVariants.{Accepted, Refused}
+use Rattle.rules.specs.declared.Verdict.TheVariants.{Accepted}
 use Rattle.rules.specs.declared.Answer.{Answer}
-use Rattle.rules.specs.Tests.{pick, conj, Refusal, first}
+use Rattle.rules.specs.Tests.{pick, Refusal, first}
 use Rattle.rules.specs.Rings.{larger_of}
-use Rattle.rules.specs.Memory.{spot, word, words, Store, puts, stack_length, made_word, make_stack}
+use Rattle.rules.specs.Memory.{spot, word, words, Store, puts, stack_length, make_stack}
 use Rattle.rules.specs.Made.{is_made, next_serial}
 use Rattle.rules.specs.Segments.{file_sound, lookup_of, executes}
 use Rattle.rules.specs.Bracket.{stays, target_of, number_of, reason_of}
 use Rattle.rules.specs.Record.{zero_argument, placed, process_sound, added}
-use Rattle.rules.specs.Arguments.{arguments_at, handed_of, copies_of, pointing}
+use Rattle.rules.specs.Arguments.{handed_of, copies_of, pointing}
 use Rattle.rules.specs.Answer.{number, places}
 
 -- "running segment unlisted, not execute, or ring outside r1..r2" (7)

@@ -1,5 +1,5 @@
 -- Document 01, "Process record": "a set of stacks already made (one bit a ring)", and the serial. Assumes nothing.
-use Rattle.std.specs.Prelude.{Bool, true, false, ℕ, ◌+◌, ◌/◌, ◌%◌, ◌^◌, leb, eqb}
+use Rattle.std.specs.Prelude.{Bool, ℕ, ◌+◌, ◌/◌, ◌%◌, ◌^◌, leb, eqb}
 use Rattle.rules.specs.Tests.{pick, how_many}
 
 -- stack k is in the set

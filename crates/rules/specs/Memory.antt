@@ -1,6 +1,6 @@
 -- Document 01, "Memory": the lent store as a list of words, and a change of it as a list of stores (stack, offset, value).
 -- Assumes nothing.
-use Rattle.std.specs.Prelude.{Bool, true, false, ◌&&◌, List, [], ◌∷◌, ◌++◌, ℕ, zero, suc, ◌+◌, ◌*◌, ◌/◌, ◌%◌, leb, eqb, length, get_or, set}
+use Rattle.std.specs.Prelude.{Bool, ◌&&◌, List, [], ◌∷◌, ◌++◌, ℕ, zero, suc, ◌+◌, ◌*◌, ◌/◌, ◌%◌, leb, eqb, length, get_or, set}
 use Rattle.rules.specs.Tests.{pick}
 
 -- "ring k's stack is words k×L to k×L+L-1"

@@ -1,5 +1,5 @@
 -- Document 01, "Return": when a return is accepted, and what it leaves. Assumes nothing.
-use Rattle.std.specs.Prelude.{Bool, true, false, ◌&&◌, ◌||◌, not, List, [], ◌∷◌, ◌++◌, ℕ, ◌+◌, ◌*◌, leb, ltb, eqb, take}
+use Rattle.std.specs.Prelude.{Bool, ◌||◌, not, List, [], ◌∷◌, ◌++◌, ℕ, ◌+◌, ◌*◌, leb, ltb, eqb, take}
 use Rattle.rules.specs.declared.Ring.{Ring}
 use Rattle.rules.specs.declared.Argument.{Argument}
 use Rattle.rules.specs.declared.Entry.{Entry}
@@ -9,10 +9,9 @@ use Rattle.rules.specs.declared.Verdict.{Verdict}
 use Rattle.rules.specs.declared.Verdict.TheVariants.{Accepted}
 use Rattle.rules.specs.declared.Answer.{Answer}
 use Rattle.rules.specs.Tests.{pick, Refusal, first}
-use Rattle.rules.specs.Memory.{spot, word, words, Store, puts, stack_length}
+use Rattle.rules.specs.Memory.{spot, words, Store, puts, stack_length}
 use Rattle.rules.specs.Segments.{file_sound}
-use Rattle.rules.specs.Record.{process_sound, newest, struck}
-use Rattle.rules.specs.Bracket.{fault_of}
+use Rattle.rules.specs.Record.{process_sound, newest}
 use Rattle.rules.specs.Answer.{number, places}
 use Rattle.rules.specs.Call.{asked}
 

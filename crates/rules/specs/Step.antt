@@ -1,15 +1,15 @@
 -- One uniform step: a verdict, a list of stores, the next record, the answer; refused means unchanged, by computation. The contract of
 -- every entry that judges cites it, and so does the theorem over runs. Assumes nothing.
-use Rattle.std.specs.Prelude.{Bool, true, false, ◌||◌, not, List, [], ◌∷◌, ◌++◌, ℕ, ◌+◌, ◌^◌, leb, ltb, eqb, length, replicate}
+use Rattle.std.specs.Prelude.{Bool, ◌||◌, not, List, [], ◌∷◌, ◌++◌, ℕ, ◌+◌, ltb, eqb, length, replicate}
 use Rattle.rules.specs.declared.Ring.{Ring}
 use Rattle.rules.specs.declared.Process.{Process}
 use Rattle.rules.specs.declared.Request.{Request}
 use Rattle.rules.specs.declared.Verdict.{Verdict}
-use Rattle.rules.specs.declared.Verdict.TheVariants.{Accepted, Refused}
+use Rattle.rules.specs.declared.Verdict.TheVariants.{Accepted}
 use Rattle.rules.specs.declared.Answer.{Answer}
 use Rattle.rules.specs.declared.Outcome.{Outcome}
 use Rattle.rules.specs.Tests.{pick, Refusal, first}
-use Rattle.rules.specs.Memory.{spot, word, Store, puts, apply, stack_length, make_stack}
+use Rattle.rules.specs.Memory.{Store, puts, apply, stack_length, make_stack}
 use Rattle.rules.specs.Made.{with_made}
 use Rattle.rules.specs.Record.{zero_entry, process_sound, newest, struck}
 use Rattle.rules.specs.Answer.{number, places, memory_by, outcome_by}

@@ -1,5 +1,7 @@
 // The run program of document 01: the file "segments" and 24-byte records from standard input give lines on standard output. L is
 // 128. What a record does and what is written for it is proved in the crates below; here it is read and written, part by part.
+#![tactic(auto)]
+
 use libc::{STDIN_FILENO, STDOUT_FILENO};
 use rules::Process;
 

@@ -1,5 +1,7 @@
 // Document 01, "Segment file": whether the file is sound, what it says of a segment number, and which offsets are gates.
 // Every reader is total: a byte past the end of the file is 0. Bytes that lie within it are read without asking one by one.
+#![tactic(auto)]
+
 ghost use Rattle.std.specs.Prelude.{◌≡◌, ◌+◌, ◌*◌, ◌<◌, ◌≤◌, min, length};
 ghost use Rattle.rules.specs.Tests.{all_from};
 ghost use Rattle.rules.specs.Segments.{byte_at, half_at, word_at, records, number_at, gate_count, gate, number_sound, fields_sound, gate_sound, record_sound, file_sound, found, segment_at, lookup_of, is_gate};

@@ -1,6 +1,8 @@
 // The tie from code to theorem: one call of a public entry extends a run by one step (rules/specs/History.antt). Each function calls
 // one entry and hands on what it gives; beside the entry's own equations its contract says that a run which had reached the store and
 // the record handed in has then reached the store and the record given back, with that step in its history.
+#![tactic(auto)]
+
 ghost use Rattle.std.specs.Prelude.{◌≡◌, List, [], ℕ};
 ghost use Rattle.rules.specs.Step.{starts, crosses, writes, looks, outcome, memory_after};
 ghost use Rattle.gatekeeper.specs.Entries.{state};

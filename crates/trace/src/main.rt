@@ -1,5 +1,7 @@
 // The program `trace`, for tests alone: it drives every public entry of the gatekeeper and shows the whole store and the whole record
 // after each step. docs/TRACE.md has its input and output. What is decoded, set and digested is proved in `desk` and `probe`.
+#![tactic(auto)]
+
 ghost use Rattle.std.specs.Prelude.{◌+◌, ◌≤◌};
 ghost use Rattle.io.specs.Counts.{IsPrefixLen};
 

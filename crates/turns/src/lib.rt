@@ -1,5 +1,7 @@
 // The run program on slices: what one record does to the lent store and the record, and the lines of an input: document 01, "The
 // run program". The program around it only reads and writes.
+#![tactic(auto)]
+
 ghost use Rattle.std.specs.Prelude.{◌≡◌, ◌+◌, ◌≤◌, ◌<◌, ◌/◌, length, take};
 ghost use Rattle.gatekeeper.specs.Entries.{state};
 ghost use Rattle.desk.specs.Lines.{written};

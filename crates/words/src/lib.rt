@@ -2,6 +2,8 @@
 // It states document 01, "Memory", and of "Start, write, look" the zeroed store and the part that a look hands back.
 // Everything here is total: past the store's end a read gives 0 and a store changes nothing. Which stack and offset are
 // permitted is decided by the crates above.
+#![tactic(auto)]
+
 ghost use Rattle.std.specs.Prelude.{◌≡◌, [], ◌∷◌, ◌++◌, ◌+◌, ◌-◌, ◌<◌, ◌^◌, min, length, set, take, replicate};
 ghost use Rattle.rules.specs.Memory.{spot, word, words, puts, apply, stack_length, made_word, make_stack};
 ghost use Rattle.rules.specs.Record.{placed};
