@@ -13,7 +13,7 @@ use rules::{Outcome, Request, Ring};
 // ---- What comes in
 
 // "kind; start ring, fault or stack; instruction; zero; five 4-byte numbers", as numbers.
-#[derive(Drop)]
+#[derive(Clone, Copy)]
 pub struct Fields {
     pub kind: u32,
     pub whom: u32,
@@ -27,7 +27,7 @@ pub struct Fields {
 }
 
 // What a record asks: "0 start, 1 crossing, 2 write", or nothing in order (number 17).
-#[derive(Drop)]
+#[derive(Clone, Copy)]
 pub enum Asked {
     Start(Ring),
     Cross(Request),

@@ -15,7 +15,7 @@ use rules::{Argument, Entry, Level, Process, Ring};
 // ---- The kinds
 
 // What a record of trace asks: a step of the run program (or 17), or one of the kinds 3 to 8.
-#[derive(Drop)]
+#[derive(Clone, Copy)]
 pub enum Told {
     Run(Asked),
     Look(Ring, u32),

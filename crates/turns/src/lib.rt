@@ -68,7 +68,7 @@ fn put_turn(out: &mut [u8], at: u32, a: Asked, o: Outcome) -> usize
 // ---- An input
 
 // The record after some input, and how many bytes were written for it.
-#[derive(Drop)]
+#[derive(Clone, Copy)]
 pub struct Answered {
     pub process: Process,
     pub at: usize,
