@@ -13,6 +13,7 @@ use words::is_placed;
 // ---- The list as it stands in the caller's stack
 
 // Group j: "(segment, offset, length, direction)". With j a byte no sum can wrap.
+#[tactic(auto, unfolding(rules::specs::Arguments::group_at))]
 fn group_at(s: &[u32], len: u32, caller: Ring, place: u32, j: u8) -> Argument
     ensures { result ≡ group_at s.now len caller.0 place j }
 {
@@ -55,6 +56,7 @@ fn arguments_at(s: &[u32], len: u32, caller: Ring, place: u32, n: u32) -> [Argum
 // ---- Where an argument may lie
 
 // "in a made stack k ≥ caller's ring, at offset ≥ 8 and ending within L"
+#[tactic(auto, unfolding(rules::specs::Arguments::in_stack))]
 fn in_stack(len: u32, made: u64, caller: Ring, a: Argument) -> bool
     ensures { result ≡ in_stack len made caller a }
 {
@@ -64,6 +66,7 @@ fn in_stack(len: u32, made: u64, caller: Ring, a: Argument) -> bool
 }
 
 // "in a listed segment with caller's ring ≤ r2, read mode for 1 and 3, write mode for 2 and 3, ending at or below 262144"
+#[tactic(auto, unfolding(rules::specs::Arguments::in_segment))]
 fn in_segment(file: &[u8], caller: Ring, a: Argument) -> bool
     ensures { result ≡ in_segment file.now caller a }
 {
@@ -77,6 +80,7 @@ fn in_segment(file: &[u8], caller: Ring, a: Argument) -> bool
 }
 
 // "only in the caller's own stack, from offset 8, ending within L"
+#[tactic(auto, unfolding(rules::specs::Arguments::in_own))]
 fn in_own(len: u32, caller: Ring, a: Argument) -> bool
     ensures { result ≡ in_own len caller a }
 {
@@ -84,6 +88,7 @@ fn in_own(len: u32, caller: Ring, a: Argument) -> bool
 }
 
 // The segment file is searched only where no stack holds the argument.
+#[tactic(auto, unfolding(rules::specs::Arguments::is_permitted))]
 fn is_permitted(file: &[u8], len: u32, made: u64, caller: Ring, outward: bool, a: Argument) -> bool
     ensures { result ≡ is_permitted file.now len made caller outward a }
 {
@@ -99,6 +104,7 @@ fn is_permitted(file: &[u8], len: u32, made: u64, caller: Ring, outward: bool, a
 // ---- The reasons, 0 where there is none
 
 // One reason, or what the rest gives.
+#[tactic(auto, unfolding(rules::specs::Tests::refuse_if))]
 fn refuse_if(fails: bool, reason: u32, rest: u32) -> u32
     ensures { result ≡ refuse_if fails reason rest }
 {
@@ -106,6 +112,7 @@ fn refuse_if(fails: bool, reason: u32, rest: u32) -> u32
 }
 
 // "4 length, 5 direction, 6 not permitted"
+#[tactic(auto, unfolding(rules::specs::Arguments::argument_reason))]
 fn argument_reason(
     file: &[u8],
     len: u32,
@@ -148,6 +155,7 @@ fn earlier(a: u32, b: u32) -> u32
 }
 
 // "argument by argument"
+#[tactic(auto, unfolding(crate::specs::Members::members_reason))]
 fn members_reason(
     file: &[u8],
     len: u32,
@@ -208,6 +216,7 @@ fn words_copied(outward: bool, list: [Argument; 4]) -> u64
 // ---- The whole
 
 // The list at a place, as a call from the caller's ring hands it over.
+#[tactic(auto, unfolding(rules::specs::Arguments::handed_of, rules::specs::Arguments::list_reason, crate::specs::Members::members_reason))]
 pub fn check_list(
     file: &[u8],
     s: &[u32],

@@ -10,6 +10,7 @@ ghost use Rattle.rules.specs.Bracket.{goes_out, stays, never, aimed, fault_of, d
 use rules::{Decision, Lookup, Ring, Segment};
 
 // One refusal, or what the rest decides.
+#[tactic(auto, unfolding(rules::specs::Tests::refuse_if))]
 fn refuse_if(fails: bool, reason: u32, rest: Decision) -> Decision
     ensures { result ≡ refuse_if fails (Refuse reason) rest }
 {
@@ -62,6 +63,7 @@ fn fault_of(outward: bool) -> u32
 }
 
 // The decision on a listed segment, `hit` saying whether the offset is a gate.
+#[tactic(auto, unfolding(rules::specs::Bracket::decision_of))]
 pub fn decide(caller: Ring, fault: u32, offset: u32, s: Segment, hit: bool) -> Decision
     ensures { result ≡ decision_of caller fault offset s hit }
 {
@@ -81,6 +83,7 @@ pub fn decide(caller: Ring, fault: u32, offset: u32, s: Segment, hit: bool) -> D
 }
 
 // The target of a call: the segment x, at that offset.
+#[tactic(auto, unfolding(rules::specs::Bracket::target_of))]
 pub fn target(f: &[u8], caller: Ring, fault: u32, x: u32, offset: u32) -> Decision
     ensures { result ≡ target_of f.now caller fault x offset }
 {

@@ -1,8 +1,8 @@
 -- From the verdict of a call to what its builder asks for and to what the entry gives back. Assumes nothing.
-use mathlib.Core.Path.{◌≡◌, refl, sym, ap, ◌∙◌}
-use mathlib.Core.Bool.{Bool, true, false}
+use mathlib.Core.Path.{◌≡◌, refl, ap, ◌∙◌}
+use mathlib.Core.Bool.{Bool, false}
 use mathlib.Core.List.{List}
-use Prim.Native.Nat.{ℕ, ◌+◌, ◌<◌, ◌≤◌}
+use Prim.Native.Nat.{ℕ}
 use native.Mathlib.Omega.{arith}
 use Rattle.rules.specs.declared.Ring.{Ring}
 use Rattle.rules.specs.declared.Entry.{Entry}
@@ -12,14 +12,15 @@ use Rattle.rules.specs.declared.Seen.{Seen}
 use Rattle.rules.specs.declared.Answer.{Answer}
 use Rattle.rules.specs.declared.Outcome.{Outcome}
 use Rattle.rules.specs.declared.Verdict.{Verdict}
-use Rattle.rules.specs.declared.Verdict.TheVariants.{Accepted}
+use Rattle.rules.specs.declared.Verdict.TheVariants.{Accepted, Refused}
 use Rattle.rules.specs.Memory.{apply, stack_length}
 use Rattle.rules.specs.Segments.{file_sound}
 use Rattle.rules.specs.Record.{process_sound, added}
 use Rattle.rules.specs.Arguments.{handed_of}
-use Rattle.rules.specs.Answer.{outcome_by, memory_by}
-use Rattle.rules.specs.Call.{goes_outward, entered, decision, handed, seen, judged, call_verdict, call_stores, call_entry, call_next, call_answer}
+use Rattle.rules.specs.Answer.{places, outcome_by, memory_by}
+use Rattle.rules.specs.Call.{goes_outward, entered, handed, seen, judged, call_verdict, call_stores, call_entry, call_next, call_answer}
 use Rattle.rules.proofs.Called.{called, copied_words}
+use Rattle.rules.proofs.Refusals.{kept}
 use Rattle.calls.specs.Ready.{Ready}
 
 module _ (f m : List ℕ) (p : Process) (q : Request) where
@@ -55,6 +56,12 @@ module _ (f m : List ℕ) (p : Process) (q : Request) where
         out = copied_words 63 f m p q c;
         inward = no_words;
       }
+
+  -- refused: the record and the store as they were
+  pub refused_is : {w : Verdict} {n reason : ℕ} (r : Outcome) → w ≡ call_verdict 63 f m p q → w ≡ Refused n reason → r ≡ outcome_by w p p (places 0 0 0 0)
+      → (r ≡ outcome_by (call_verdict 63 f m p q) p (call_next p q saw) (call_answer q saw))
+      × (m ≡ memory_by (call_verdict 63 f m p q) m (apply (stack_length m) (call_stores m p.ring p.made p.calls p.serial q saw) m))
+  refused_is r s k o = kept r p _ _ m _ s k o
 
   -- accepted: the record with the entry added, the places, and the stores
   pub accepted_is : (v : Seen) (w : Verdict) (e : Entry) (to : Ring) (after : Process) (given : Answer) (t : List ℕ)

@@ -1,5 +1,5 @@
 -- The turns of the loops that gather the copies and point the list at them. Assumes nothing.
-use mathlib.Core.Path.{◌≡◌, refl, sym, ap, ◌∙◌}
+use mathlib.Core.Path.{◌≡◌, ap, ◌∙◌}
 use mathlib.Core.List.{List, [], ◌∷◌, ◌++◌, append_assoc, append-nil}
 use Prim.Native.Nat.{ℕ, zero, suc, ◌+◌, ◌-◌, ◌*◌, ◌<◌, ◌≤◌, min, zero-le}
 use native.Mathlib.Numerals.{add-one}
@@ -8,10 +8,10 @@ use native.Mathlib.Omega.{arith}
 use lib.ListN.{length, get_or, set, take, replicate}
 use lib.Seq.{take-suc, take-suc-set, take_at, length-take-le}
 use Rattle.rules.specs.declared.Argument.{Argument}
-use Rattle.rules.specs.Memory.{spot, words, Store, puts, apply}
+use Rattle.rules.specs.Memory.{spot, words, puts, apply}
 use Rattle.rules.specs.Record.{zero_argument}
 use Rattle.rules.specs.Arguments.{words_in, copies_of, pointing}
-use Rattle.rules.proofs.Memory.{length-words, puts-append, then, two}
+use Rattle.rules.proofs.Memory.{length-words, puts-append, then}
 use Rattle.rules.proofs.Arguments.{length-pointing, words_turn}
 
 -- one word more of b is put into a

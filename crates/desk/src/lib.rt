@@ -68,6 +68,7 @@ fn small(b: &[u8], k: usize) -> u32
 }
 
 // The record that begins at a byte of the input.
+#[tactic(auto, unfolding(crate::specs::Records::fields_at))]
 pub fn read_record(b: &[u8], at: u32) -> Fields
     ensures { result ≡ fields_at b.now at }
 {
@@ -107,6 +108,7 @@ fn write_clean(x: Fields) -> bool
 }
 
 // "exactly when the kind is above 2, the zero byte or an unused field isn't zero"
+#[tactic(auto, unfolding(crate::specs::Records::is_wrong, crate::specs::Records::unused_zero))]
 fn is_wrong(x: Fields) -> bool
     ensures { result ≡ is_wrong x }
 {
@@ -115,6 +117,7 @@ fn is_wrong(x: Fields) -> bool
 }
 
 // What a record asks.
+#[tactic(auto, unfolding(crate::specs::Records::asked_of))]
 pub fn decode(x: Fields) -> Asked
     ensures { result ≡ asked_of x }
 {
@@ -208,6 +211,7 @@ fn put_numbers(out: &mut [u8], at: usize, numbers: &[u32]) -> usize
 }
 
 // "kind, number, reason, ring, open, made, serial, segment, offset, frame, argument place".
+#[tactic(auto, unfolding(crate::specs::Lines::shown))]
 pub fn numbers_of(kind: u32, made: u32, o: Outcome) -> [u32; 11]
     ensures { result ≡ shown kind made o }
 {

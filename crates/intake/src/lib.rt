@@ -4,35 +4,44 @@
 
 ghost use Rattle.std.specs.Prelude.{◌≤◌, length};
 
+use std::fs::File;
+use std::io::{Error, ErrorKind, Read};
+use std::rt::Files;
+
 // How many bytes came, and whether a read failed.
-#[derive(Drop)]
+#[derive(Clone, Copy)]
 pub struct Filled {
     pub count: usize,
     pub failed: bool,
 }
 
+// What went wrong, on standard error; there is nobody to tell that this failed too.
+fn tell<R: Eprint>(rt: &R, name: &str, error: &Error) {
+    let _ = eprintln!(rt; "{name}: {error}");
+}
+
 // Reads until the room is full, the input ends or a read fails, which it says on standard error.
-pub fn fill(fd: i32, name: &[u8], room: &mut [u8]) -> Filled
+pub fn fill<R: Eprint, T: Read>(rt: &R, from: &mut T, name: &str, room: &mut [u8]) -> Filled
     ensures { result.count ≤ length room.new }
 {
     let mut count: usize = 0;
     while count < room.len() {
-        let got = libc::read(fd, &mut room[count..]);
-        if got < 0 {
-            os::fail(name);
-            return Filled {
-                count,
-                failed: true,
-            };
+        match from.read(&mut room[count..]) {
+            Ok(0) => {
+                return Filled {
+                    count,
+                    failed: false,
+                };
+            }
+            Ok(n) => count += n,
+            Err(e) => {
+                tell(rt, name, &e);
+                return Filled {
+                    count,
+                    failed: true,
+                };
+            }
         }
-        let n = io::count(got, &room[count..]);
-        if n == 0 {
-            return Filled {
-                count,
-                failed: false,
-            };
-        }
-        count += n;
     }
     Filled {
         count,
@@ -42,24 +51,23 @@ pub fn fill(fd: i32, name: &[u8], room: &mut [u8]) -> Filled
 
 // The file "segments" of the current folder: how many bytes of it are in the room. Missing means empty. One that is there and cannot
 // be read is said on standard error and counts as a file that breaks a rule, since none of one byte is sound.
-pub fn segment_file(room: &mut [u8]) -> usize
+pub fn segment_file<R: Files + Eprint>(rt: &R, room: &mut [u8]) -> usize
     ensures { result ≤ length room.new }
 {
     if room.len() == 0 {
         return 0;
     }
-    let fd = os::open_read(b"segments");
-    if fd < 0 {
-        if os::errno() == libc::ENOENT {
-            return 0;
+    match File::open(rt, "segments") {
+        Ok(mut file) => {
+            let f = fill(rt, &mut file, "segments", room);
+            if f.failed { 1 } else { f.count }
         }
-        os::fail(b"segments");
-        return 1;
+        Err(e) => {
+            if e.kind() == ErrorKind::NotFound {
+                return 0;
+            }
+            tell(rt, "segments", &e);
+            1
+        }
     }
-    let f = fill(fd, b"segments", room);
-    libc::close(fd);
-    if f.failed {
-        return 1;
-    }
-    f.count
 }

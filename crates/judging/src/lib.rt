@@ -116,6 +116,7 @@ pub fn survey(file: &[u8], s: &[u32], ring: Ring, made: u64, q: Request) -> Seen
 // ---- The numbers, in the document's order
 
 // One number, or what the rest decides.
+#[tactic(auto, unfolding(rules::specs::Tests::refuse_if))]
 fn refuse_if(fails: bool, number: u32, reason: u32, rest: Verdict) -> Verdict
     ensures { result ≡ refuse_if fails (Refused number reason) rest }
 {
@@ -145,6 +146,7 @@ fn passes(v: Seen) -> bool
 }
 
 // A call: 1 2 4 5 6 7 8 9 3 10 11 12.
+#[tactic(auto, unfolding(rules::specs::Call::judged))]
 pub fn judge_call(top: Ring, file: bool, sound: bool, calls: u32, q: Request, v: Seen) -> Verdict
     ensures { result ≡ judged top.0 file sound calls q v }
 {
@@ -175,6 +177,7 @@ pub fn judge_call(top: Ring, file: bool, sound: bool, calls: u32, q: Request, v:
 }
 
 // A return: 1 2 4 5 13.
+#[tactic(auto, unfolding(rules::specs::Return::judged_back))]
 pub fn judge_return(
     len: u32,
     file: bool,
@@ -200,6 +203,7 @@ fn fault_back(ring: Ring, old: Ring) -> u32
 }
 
 // A start: 1 14.
+#[tactic(auto, unfolding(rules::specs::Step::judged_start))]
 pub fn judge_start(top: Ring, len: u32, ring: Ring) -> Verdict
     ensures { result ≡ judged_start top.0 len ring }
 {
@@ -212,6 +216,7 @@ pub fn judge_start(top: Ring, len: u32, ring: Ring) -> Verdict
 }
 
 // A write or a look: 1 4 16 15.
+#[tactic(auto, unfolding(rules::specs::Step::judged_reach))]
 pub fn judge_reach(
     top: Ring,
     len: u32,

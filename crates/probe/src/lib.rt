@@ -27,6 +27,7 @@ pub enum Told {
 }
 
 // Whether the record has that field, of that entry, of that argument.
+#[tactic(auto, unfolding(crate::specs::Fields::field_there))]
 fn field_there(field: u32, entry: u32, argument: u32) -> bool
     ensures { result ≡ field_there field entry argument }
 {
@@ -43,6 +44,7 @@ fn look_clean(x: Fields) -> bool
 }
 
 // Whether a kind above 2 gives 17.
+#[tactic(auto, unfolding(crate::specs::Kinds::is_odd))]
 fn is_odd(words: u32, bytes: u32, x: Fields) -> bool
     ensures { result ≡ is_odd words bytes x }
 {
@@ -59,6 +61,7 @@ fn is_odd(words: u32, bytes: u32, x: Fields) -> bool
 }
 
 // What a record of trace asks, the store being so many words long and the file so many bytes.
+#[tactic(auto, unfolding(crate::specs::Kinds::told_of))]
 pub fn told_by(words: u32, bytes: u32, x: Fields) -> Told
     ensures { result ≡ told_of words bytes x }
 {
@@ -115,6 +118,7 @@ fn made_with(b: bool, high: u32, low: u32, made: u64) -> u64
 }
 
 // Fields 0 to 3.
+#[tactic(auto, unfolding(crate::specs::Fields::record_with))]
 fn record_with(field: u32, n1: u32, n2: u32, mut p: Process) -> Process
     ensures { result ≡ record_with field n1 n2 p }
 {
@@ -127,6 +131,7 @@ fn record_with(field: u32, n1: u32, n2: u32, mut p: Process) -> Process
 }
 
 // Fields 20 to 23.
+#[tactic(auto, unfolding(crate::specs::Fields::argument_with))]
 fn argument_with(field: u32, n: u32, a: Argument) -> Argument
     ensures { result ≡ argument_with field n a }
 {
@@ -151,6 +156,7 @@ fn arguments_with(field: u32, k: u32, n: u32, mut l: [Argument; 4]) -> [Argument
 }
 
 // Fields 10 to 19, and those of an argument.
+#[tactic(auto, unfolding(crate::specs::Fields::entry_with))]
 fn entry_with(field: u32, k: u32, n: u32, e: Entry) -> Entry
     ensures { result ≡ entry_with field k n e }
 {
@@ -172,6 +178,7 @@ fn entry_with(field: u32, k: u32, n: u32, e: Entry) -> Entry
 }
 
 // A field of the record becomes a number; one that is not there changes nothing.
+#[tactic(auto, unfolding(crate::specs::Fields::field_set))]
 pub fn set_field(field: u32, entry: u32, argument: u32, n1: u32, n2: u32, mut p: Process) -> Process
     ensures { result ≡ field_set field entry argument n1 n2 p }
 {
@@ -208,6 +215,7 @@ pub fn digest_words(s: &[u32]) -> u32
     d
 }
 
+#[tactic(auto, unfolding(crate::specs::Digests::digest_on))]
 fn mix_argument(d: u32, a: Argument) -> u32
     ensures { result ≡ digest_on d (argument_numbers a) }
 {
@@ -215,6 +223,7 @@ fn mix_argument(d: u32, a: Argument) -> u32
 }
 
 // Fields 10 to 19 of an entry.
+#[tactic(auto, unfolding(crate::specs::Digests::digest_on))]
 fn mix_ten(d: u32, e: Entry) -> u32
     ensures { result ≡ digest_on d (ten_numbers e) }
 {
@@ -249,6 +258,7 @@ fn mix_entries(d: u32, entries: [Entry; 32]) -> u32
 }
 
 // The digest of the whole record.
+#[tactic(auto, unfolding(crate::specs::Digests::digest, crate::specs::Digests::digest_on, crate::specs::Digests::record_numbers))]
 pub fn digest_record(p: Process) -> u32
     ensures { result ≡ digest (record_numbers p) }
 {

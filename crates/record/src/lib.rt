@@ -16,6 +16,7 @@ fn choose(b: bool, x: bool, y: bool) -> bool
     if b { x } else { y }
 }
 
+#[tactic(auto, unfolding(rules::specs::Record::argument_sound))]
 fn argument_sound(len: u32, old: Ring, a: Argument) -> bool
     ensures { result ≡ argument_sound len old a }
 {
@@ -28,6 +29,7 @@ fn argument_sound(len: u32, old: Ring, a: Argument) -> bool
         & (a.direction <= 3)
 }
 
+#[tactic(auto, unfolding(rules::specs::Record::argument_is_zero))]
 fn argument_is_zero(a: Argument) -> bool
     ensures { result ≡ argument_is_zero a }
 {
@@ -41,6 +43,7 @@ fn argument_rule(len: u32, used: bool, old: Ring, a: Argument) -> bool
     choose(used, argument_sound(len, old, a), argument_is_zero(a))
 }
 
+#[tactic(auto, unfolding(rules::specs::Record::arguments_sound, rules::specs::Tests::all_below))]
 fn arguments_sound(len: u32, e: Entry) -> bool
     ensures { result ≡ arguments_sound len e }
 {
@@ -65,12 +68,14 @@ fn all_lengths(e: Entry) -> u64
         + length_of(e.arguments[3])
 }
 
+#[tactic(auto, unfolding(rules::specs::Record::inward_sound))]
 fn inward_sound(len: u32, e: Entry) -> bool
     ensures { result ≡ inward_sound len e }
 {
     (e.count == 0) & (e.fresh as u64 + 33 <= len as u64)
 }
 
+#[tactic(auto, unfolding(rules::specs::Record::outward_sound))]
 fn outward_sound(len: u32, e: Entry) -> bool
     ensures { result ≡ outward_sound len e }
 {
@@ -78,6 +83,7 @@ fn outward_sound(len: u32, e: Entry) -> bool
 }
 
 // The rules of one open entry, in the document's order.
+#[tactic(auto, unfolding(rules::specs::Record::open_sound))]
 fn open_sound(top: Ring, len: u32, made: u64, entered: Ring, e: Entry) -> bool
     ensures { result ≡ open_sound top.0 len made entered e }
 {
@@ -100,6 +106,7 @@ fn open_sound(top: Ring, len: u32, made: u64, entered: Ring, e: Entry) -> bool
         )
 }
 
+#[tactic(auto, unfolding(rules::specs::Record::entry_is_zero))]
 fn entry_is_zero(e: Entry) -> bool
     ensures { result ≡ entry_is_zero e }
 {
@@ -152,6 +159,7 @@ fn rest_zero(calls: u32, entries: [Entry; 32]) -> bool
 }
 
 // Number 4's test, the highest ring being top.
+#[tactic(auto, unfolding(rules::specs::Record::process_sound))]
 pub fn process_sound(top: Ring, len: u32, p: Process) -> bool
     ensures { result ≡ process_sound top.0 len p }
 {
@@ -193,6 +201,7 @@ pub fn zero_entry() -> Entry
 }
 
 // The newest open entry, and zeros where none is open.
+#[tactic(auto, unfolding(rules::specs::Record::newest))]
 pub fn newest_entry(p: Process) -> Entry
     ensures { result ≡ newest p }
 {
@@ -208,6 +217,7 @@ pub fn newest_entry(p: Process) -> Entry
 }
 
 // The record after an accepted call into a ring: the entry is added, the ring runs and its stack is made.
+#[tactic(auto, unfolding(rules::specs::Record::added))]
 pub fn add_entry(mut p: Process, e: Entry, to: Ring) -> Process
     ensures { result ≡ added p e to }
 {
@@ -223,6 +233,7 @@ pub fn add_entry(mut p: Process, e: Entry, to: Ring) -> Process
 }
 
 // The record after an accepted return: the newest entry is struck and zeroed, its old ring runs.
+#[tactic(auto, unfolding(rules::specs::Record::struck, rules::specs::Record::newest))]
 pub fn strike_newest(mut p: Process) -> Process
     ensures { result ≡ struck p }
 {

@@ -2,53 +2,69 @@
 // 128. What a record does and what is written for it is proved in the crates below; here it is read and written, part by part.
 #![tactic(auto)]
 
-use libc::{STDIN_FILENO, STDOUT_FILENO};
 use rules::Process;
+use std::io;
+use std::io::{Read, Write};
 
 // The record after a part of the input, and whether there may be more.
-#[derive(Drop)]
+#[derive(Clone, Copy)]
 struct Served {
     process: Process,
     more: bool,
 }
 
 // One part of the input: at most 512 records, each answered.
-fn serve_some(file: &[u8], s: &mut [u32], p: Process) -> Served {
+fn serve_some<R: Eprint, I: Read, O: Write>(
+    rt: &R,
+    from: &mut I,
+    to: &mut O,
+    file: &[u8],
+    s: &mut [u32],
+    p: Process,
+) -> io::Result<Served> {
     let mut input = [0u8; 12288];
-    let got = intake::fill(STDIN_FILENO, b"standard input", &mut input);
-    let n = got.count;
-    let mut out = io::large_buffer();
+    let n = intake::fill(rt, from, "standard input", &mut input).count;
+    let mut out = [0u8; 65536];
     let done = turns::answer(file, s, p, &input[..n], &mut out);
-    let end = done.at;
-    let written = io::write_all(STDOUT_FILENO, &out[..end]);
-    if !written {
-        os::fail(b"standard output");
-    }
-    let process = done.process;
-    Served {
-        process,
-        more: written & (n == 12288),
-    }
+    to.write_all(&out[..done.at])?;
+    Ok(Served {
+        process: done.process,
+        more: n == 12288,
+    })
 }
 
-// A proved loop has to end, and nothing says that the input does: it counts down from a number that no run uses up.
-fn serve(file: &[u8], s: &mut [u32], p: Process) {
+// A proved loop has to end, and nothing says that the input does: it goes on for as many parts as no run uses up.
+fn serve<R: Eprint, I: Read, O: Write>(
+    rt: &R,
+    from: &mut I,
+    to: &mut O,
+    file: &[u8],
+    s: &mut [u32],
+    p: Process,
+) -> io::Result<()> {
     let mut process = p;
-    let mut left = u64::MAX;
-    while left > 0 {
-        let served = serve_some(file, s, process);
+    for _ in 0..u64::MAX {
+        let served = serve_some(rt, from, to, file, s, process)?;
         if !served.more {
-            return;
+            break;
         }
-        let next = served.process;
-        process = next;
-        left -= 1;
+        process = served.process;
     }
+    Ok(())
 }
 
-fn main() {
+fn main(rt: HostRuntime) -> io::Result<()> {
     let mut room = [0u8; 7760];
-    let n = intake::segment_file(&mut room);
+    let n = intake::segment_file(&rt, &mut room);
     let mut store = [0u32; 8192];
-    serve(&room[..n], &mut store, turns::zero_record());
+    let mut from = rt.stdin();
+    let mut to = rt.stdout();
+    serve(
+        &rt,
+        &mut from,
+        &mut to,
+        &room[..n],
+        &mut store,
+        turns::zero_record(),
+    )
 }

@@ -105,6 +105,7 @@ fn gate_sound(f: &[u8], i: u8, j: u8, g: u32, next: u32) -> bool
 }
 
 // The eight gates, each read once.
+#[tactic(auto, using(rules::proofs::Tests::all_more, rules::proofs::Tests::all_stop, rules::proofs::Tests::all_done))]
 fn gates_sound(f: &[u8], i: u8) -> bool
     ensures { result ≡ all_from (gate_sound f.now i) 0 8 }
 {
@@ -121,6 +122,7 @@ fn gates_sound(f: &[u8], i: u8) -> bool
     true
 }
 
+#[tactic(auto, unfolding(rules::specs::Segments::record_sound))]
 fn record_sound(f: &[u8], i: u8, top: Ring) -> bool
     requires { (i < 255) × (i * 40 + 40 ≤ length f.now) }
     ensures { result ≡ record_sound top.0 f.now i }
@@ -131,6 +133,7 @@ fn record_sound(f: &[u8], i: u8, top: Ring) -> bool
     number & (fields & gates)
 }
 
+#[tactic(auto, using(rules::proofs::Tests::all_more, rules::proofs::Tests::all_stop, rules::proofs::Tests::all_done))]
 fn records_sound(f: &[u8], n: u8, top: Ring) -> bool
     requires { n * 40 ≤ length f.now }
     ensures { result ≡ all_from (record_sound top.0 f.now) 0 n }
@@ -146,6 +149,7 @@ fn records_sound(f: &[u8], n: u8, top: Ring) -> bool
 }
 
 // Whether the file keeps every rule, the highest ring being `top` (number 2).
+#[tactic(auto, unfolding(rules::specs::Segments::file_sound))]
 pub fn file_sound(f: &[u8], top: Ring) -> bool
     ensures { result ≡ file_sound top.0 f.now }
 {
@@ -166,6 +170,7 @@ fn records_of(f: &[u8]) -> u8
 }
 
 // The first record with the number x.
+#[tactic(auto, using(rules::proofs::Segments::first_more, rules::proofs::Segments::first_stop, rules::proofs::Segments::first_done), unfolding(rules::specs::Segments::found))]
 fn find(f: &[u8], x: u32) -> Found
     ensures { result ≡ found f.now x }
 {
@@ -182,6 +187,7 @@ fn find(f: &[u8], x: u32) -> Found
 }
 
 // The brackets and the mode of record i.
+#[tactic(auto, unfolding(rules::specs::Segments::segment_at))]
 fn segment_at(f: &[u8], i: u8) -> Segment
     ensures { result ≡ segment_at f.now i }
 {
@@ -200,6 +206,7 @@ fn segment_at(f: &[u8], i: u8) -> Segment
 }
 
 // What the file says of the segment number x.
+#[tactic(auto, unfolding(rules::specs::Segments::lookup_of))]
 pub fn look_up(f: &[u8], x: u32) -> Lookup
     ensures { result ≡ lookup_of f.now x }
 {
@@ -210,6 +217,7 @@ pub fn look_up(f: &[u8], x: u32) -> Lookup
 }
 
 // Whether an offset is a gate of record i.
+#[tactic(auto, using(rules::proofs::Tests::any_more, rules::proofs::Tests::any_stop, rules::proofs::Tests::any_done), unfolding(rules::specs::Segments::is_gate))]
 pub fn is_gate(f: &[u8], i: u8, offset: u32) -> bool
     ensures { result ≡ is_gate f.now i offset }
 {

@@ -2,16 +2,16 @@
 // after each step. docs/TRACE.md has its input and output. What is decoded, set and digested is proved in `desk` and `probe`.
 #![tactic(auto)]
 
-ghost use Rattle.std.specs.Prelude.{◌+◌, ◌≤◌};
-ghost use Rattle.io.specs.Counts.{IsPrefixLen};
+ghost use Rattle.std.specs.Prelude.{◌+◌, ◌≤◌, length};
 
 use desk::Asked;
-use libc::{STDIN_FILENO, STDOUT_FILENO};
 use probe::Told;
 use rules::{Answer, Outcome, Process, Ring};
+use std::io;
+use std::io::{Read, Write};
 
 // The record, and how many words of the store and bytes of the file are lent.
-#[derive(Drop)]
+#[derive(Clone, Copy)]
 struct Bench {
     process: Process,
     words: u32,
@@ -19,7 +19,7 @@ struct Bench {
 }
 
 // After a step: the bench, the answer, and the digest of what a look handed back.
-#[derive(Drop)]
+#[derive(Clone, Copy)]
 struct Shown {
     bench: Bench,
     answer: Answer,
@@ -29,14 +29,14 @@ struct Shown {
 // ---- The lent parts: as long as asked, and no longer than there is room
 
 fn first_words(n: u32, s: &[u32]) -> usize
-    ensures { IsPrefixLen result s.now }
+    ensures { result ≤ length s.now }
 {
     let k = n as usize;
     if k <= s.len() { k } else { s.len() }
 }
 
 fn first_bytes(n: u32, f: &[u8]) -> usize
-    ensures { IsPrefixLen result f.now }
+    ensures { result ≤ length f.now }
 {
     let k = n as usize;
     if k <= f.len() { k } else { f.len() }
@@ -187,7 +187,7 @@ fn numbers_of(t: Told, store: &[u32], x: Shown) -> [u32; 14] {
 // ---- A part of the input
 
 // The bench after some records, and how many bytes were written for them.
-#[derive(Drop)]
+#[derive(Clone, Copy)]
 struct Traced {
     bench: Bench,
     at: usize,
@@ -240,55 +240,62 @@ fn trace_records(
 }
 
 // The bench after a part of the input, and whether there may be more.
-#[derive(Drop)]
+#[derive(Clone, Copy)]
 struct Served {
     bench: Bench,
     more: bool,
 }
 
 // At most 400 records: each line takes at most 154 bytes.
-fn serve_some(file: &mut [u8], store: &mut [u32], b: Bench) -> Served {
+fn serve_some<R: Eprint, I: Read, O: Write>(
+    rt: &R,
+    from: &mut I,
+    to: &mut O,
+    file: &mut [u8],
+    store: &mut [u32],
+    b: Bench,
+) -> io::Result<Served> {
     let mut input = [0u8; 9600];
-    let got = intake::fill(STDIN_FILENO, b"standard input", &mut input);
-    let n = got.count;
-    let mut out = io::large_buffer();
+    let n = intake::fill(rt, from, "standard input", &mut input).count;
+    let mut out = [0u8; 65536];
     let done = trace_records(file, store, b, &input[..n], &mut out);
-    let end = done.at;
-    let written = io::write_all(STDOUT_FILENO, &out[..end]);
-    if !written {
-        os::fail(b"standard output");
-    }
-    let bench = done.bench;
-    Served {
-        bench,
-        more: written & (n == 9600),
-    }
+    to.write_all(&out[..done.at])?;
+    Ok(Served {
+        bench: done.bench,
+        more: n == 9600,
+    })
 }
 
-// A proved loop has to end, and nothing says that the input does: it counts down from a number that no run uses up.
-fn serve(file: &mut [u8], store: &mut [u32], b: Bench) {
+// A proved loop has to end, and nothing says that the input does: it goes on for as many parts as no run uses up.
+fn serve<R: Eprint, I: Read, O: Write>(
+    rt: &R,
+    from: &mut I,
+    to: &mut O,
+    file: &mut [u8],
+    store: &mut [u32],
+    b: Bench,
+) -> io::Result<()> {
     let mut bench = b;
-    let mut left = u64::MAX;
-    while left > 0 {
-        let served = serve_some(file, store, bench);
+    for _ in 0..u64::MAX {
+        let served = serve_some(rt, from, to, file, store, bench)?;
         if !served.more {
-            return;
+            break;
         }
-        let next = served.bench;
-        bench = next;
-        left -= 1;
+        bench = served.bench;
     }
+    Ok(())
 }
 
-fn main() {
+fn main(rt: HostRuntime) -> io::Result<()> {
     let mut file = [0u8; 7760];
-    let n = intake::segment_file(&mut file);
+    let n = intake::segment_file(&rt, &mut file);
     let mut store = [0u32; 65792];
-    let process = turns::zero_record();
     let bench = Bench {
-        process,
+        process: turns::zero_record(),
         words: 8192,
         bytes: n as u32,
     };
-    serve(&mut file, &mut store, bench);
+    let mut from = rt.stdin();
+    let mut to = rt.stdout();
+    serve(&rt, &mut from, &mut to, &mut file, &mut store, bench)
 }

@@ -14,7 +14,7 @@ use Rattle.desk.specs.declared.Asked.{Asked}
 use Rattle.desk.specs.declared.Asked.TheVariants.{Wrong}
 use Rattle.desk.specs.declared.Fields.{Fields}
 use Rattle.desk.specs.Records.{fields_at, asked_of}
-use Rattle.desk.specs.Lines.{line, shown, written}
+use Rattle.desk.specs.Lines.{shown, written}
 use Rattle.desk.proofs.Laws.{written_then, line-few}
 use Rattle.turns.specs.declared.Answered.{Answered}
 use Rattle.turns.specs.Turns.{wrong_outcome, turn_outcome, turn_memory, turned, line_of, turn_line, asked_at, lines_from, state_from, run_state, run_text, answered_by}

@@ -22,6 +22,7 @@ pub fn place(len: u32, ring: Ring, at: u32) -> usize
 }
 
 // "64×L words, L from 128 to 1,024": L, and 0 for a store of another length (number 1).
+#[tactic(auto, unfolding(rules::specs::Memory::stack_length))]
 pub fn stack_length(s: &[u32]) -> u32
     ensures { result ≡ stack_length s.now }
 {
@@ -34,6 +35,7 @@ pub fn stack_length(s: &[u32]) -> u32
 }
 
 // "8 to L-32", "8 to L-1": x is at least 8, and x and room more end within a stack.
+#[tactic(auto, unfolding(rules::specs::Record::placed))]
 pub fn is_placed(len: u32, x: u32, room: u32) -> bool
     ensures { result ≡ placed len x room }
 {
@@ -73,6 +75,7 @@ pub fn load_past(s: &[u32], len: u32, ring: Ring, at: u32, more: u32) -> u32
 }
 
 // One word of a stack is stored.
+#[tactic(auto, unfolding(rules::specs::Memory::apply, rules::specs::Memory::puts))]
 pub fn store_word(s: &mut [u32], len: u32, ring: Ring, at: u32, v: u32)
     ensures { s.new ≡ apply len (puts ring.0 at (v ∷ [])) s.old }
 {
@@ -80,6 +83,7 @@ pub fn store_word(s: &mut [u32], len: u32, ring: Ring, at: u32, v: u32)
 }
 
 // "A pointer is two words: segment, offset."
+#[tactic(auto, using(rules::proofs::Memory::two))]
 pub fn store_pointer(s: &mut [u32], len: u32, ring: Ring, at: u32, segment: u32, offset: u32)
     ensures { s.new ≡ apply len (puts ring.0 at (segment ∷ offset ∷ [])) s.old }
 {
