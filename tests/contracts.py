@@ -27,10 +27,10 @@ def missing(head):
     """what the contract of a function leaves open"""
     signature = head.split("ensures")[0].split("requires")[0]
     open_ = []
-    if "->" in signature and not re.search(r"ensures (?:\w+ )?\{ λ r\. ⌜ r ≡ ", head):
+    if "->" in signature and not re.search(r"ensures (?:\w+ )?\{ result ≡ ", head):
         open_.append("result")
     for name in re.findall(r"(\w+): &(?:'\w+ )?mut ", signature):
-        if not re.search(r"⌜ now \(%s \.exit\) ≡ " % name, head):
+        if not re.search(r"\{ %s\.new ≡ " % name, head):
             open_.append(name)
     if "requires" in head:
         open_.append("requires")

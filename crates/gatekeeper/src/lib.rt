@@ -11,6 +11,7 @@ ghost use Rattle.gatekeeper.specs.Entries.{state, look_start, look_length};
 use rules::{Answer, Outcome, Process, Request, Ring, Verdict};
 
 // "the record has this ring and stack and is otherwise zero"
+#[tactic(auto, unfolding(rules::specs::Step::start_next))]
 fn start_record(ring: Ring) -> Process
     ensures { result ≡ start_next ring }
 {
@@ -63,6 +64,7 @@ pub fn cross(file: &[u8], s: &mut [u32], p: Process, q: Request) -> Outcome
 }
 
 // "Write and look: 1 4 16 15", for some words at an offset of a stack.
+#[tactic(auto, unfolding(rules::specs::Step::reach_verdict))]
 fn reach(s: &[u32], p: Process, stack: Ring, at: u32, room: u32) -> Verdict
     ensures { result ≡ reach_verdict 63 [] (state s.now p) stack at room }
 {
@@ -86,6 +88,7 @@ pub fn write(s: &mut [u32], p: Process, stack: Ring, at: u32, value: u32) -> Out
 }
 
 // "a separate question on the same inputs gives the number"
+#[tactic(auto, unfolding(rules::specs::Step::outcome))]
 pub fn look_number(s: &[u32], p: Process, stack: Ring, at: u32) -> Outcome
     ensures { result ≡ outcome 63 [] (state s.now p) (looks stack at) }
 {

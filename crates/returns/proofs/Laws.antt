@@ -1,15 +1,15 @@
 -- Laws of the copies that go back, and of what an accepted return may rely on. Assumes nothing.
-use mathlib.Core.Path.{◌≡◌, refl, sym, ◌∙◌}
+use mathlib.Core.Path.{◌≡◌, refl}
 use mathlib.Core.Bool.{Bool, true, false}
 use mathlib.Core.List.{List, [], ◌∷◌, ◌++◌, append_assoc, append-nil}
 use Prim.Native.Nat.{ℕ, zero, suc, ◌+◌, ◌*◌, ◌<◌, ◌≤◌}
 use native.Mathlib.Numerals.{add-one}
-use native.Mathlib.Nat.{add_assoc, add-zero, zero-add}
+use native.Mathlib.Nat.{add_assoc, add-zero, zero-add, le_antisymm}
 use native.Mathlib.Omega.{arith}
 use lib.Dec.{leb, ltb, eqb}
 use lib.ListN.{length, take, drop, get_or, length-drop}
 use lib.Seq.{take-suc, length-take-le, get_or-drop}
-use borrow.Author.Tests.{leb-true, eqb-true}
+use borrow.Author.Tests.{leb-true, eqb-true, le-leb, lt-leb}
 use Rattle.rules.specs.declared.Argument.{Argument}
 use Rattle.rules.specs.declared.Ring.{Ring}
 use Rattle.rules.specs.declared.Entry.{Entry}
@@ -37,6 +37,20 @@ word_turn L k at from i a m s t l inv new =
     let short : i < length (drop from a) = simp length-drop (omega arith) in
     let few = length-take-le i (drop from a) (omega arith) in
     rw (add-one, take-suc (drop from a) i 0 short, puts-append, few, get_or-drop) (then L _ _ m s t inv new)
+
+-- an argument that only went in: nothing goes back
+pub input : (copies : List ℕ) (old from L : ℕ) (a : Argument) (m : List ℕ) → a.direction < 2 → m ≡ apply L (back_one copies old from a) m
+unfolding back_one apply
+input copies old from L a m h = let test = lt-leb 2 a.direction h in rw test
+
+-- one that went out: all its words have gone back
+pub output : (copies : List ℕ) (old from L i : ℕ) (a : Argument) (m s : List ℕ) → 2 ≤ a.direction → i ≤ a.length → a.length ≤ i
+    → s ≡ apply L (puts old a.offset (take i (drop from copies))) m → s ≡ apply L (back_one copies old from a) m
+unfolding back_one
+output copies old from L i a m s h most least inv =
+    let test = le-leb 2 a.direction h in
+    let ended = le_antisymm most least in
+    rw (test, ← ended) inv
 
 -- ---- the loop that goes through the arguments
 

@@ -1,6 +1,5 @@
 -- From an entry's equations to the run that its step extends. Assumes nothing.
-use mathlib.Core.Path.{◌≡◌, refl, sym, ap, ap₂, ◌∙◌, subst}
-use mathlib.Core.Bool.{false}
+use mathlib.Core.Path.{◌≡◌, refl, sym, ap₂, subst}
 use mathlib.Core.List.{List, [], ◌∷◌}
 use Prim.Native.Nat.{ℕ}
 use Rattle.rules.specs.declared.Ring.{Ring}
@@ -11,9 +10,9 @@ use Rattle.rules.specs.declared.Verdict.TheVariants.{Accepted, Refused}
 use Rattle.rules.specs.Memory.{apply}
 use Rattle.rules.specs.Answer.{memory_by}
 use Rattle.rules.specs.Step.{Event, starts, looks, State, verdict, outcome, memory_after, step}
-use Rattle.rules.specs.History.{Done, begins, Run, begun, then}
+use Rattle.rules.specs.History.{Run, begun, then}
 use Rattle.gatekeeper.specs.Entries.{state}
-use Rattle.tie.specs.Extends.{Begins, Extends}
+use Rattle.tie.specs.Extends.{Extends}
 
 -- the store and the record that the equations give are those of the step
 reached : (f m : List ℕ) (p : Process) (e : Event) (n : List ℕ) (o : Outcome) → n ≡ memory_after 63 f (state m p) e → o ≡ outcome 63 f (state m p) e

@@ -1,0 +1,6 @@
+use Rattle.std.proofs.Common.{sym}
+use Rattle.gatekeeper.proofs.Laws.{looked}
+use Rattle.gatekeeper.proofs.look.Goals as goal
+
+pub returns : goal.returns
+returns c = looked _ _ _ _ _ _ c.stack_length.ensures (sym c.in-Accepted.ensures) c.part.ensures

@@ -1,0 +1,13 @@
+use Rattle.std.proofs.Common.{arith, rules}
+use Rattle.rules.proofs.Memory.{none}
+use Rattle.returns.proofs.Laws.{word_turn}
+use Rattle.returns.proofs.back_one.Goals as goal
+
+pub loop-i-init : goal.loop-i-init
+loop-i-init c = record { in_range = omega arith; stored = none _ _ _ _ }
+
+pub loop-i-preserved : goal.loop-i-preserved
+loop-i-preserved c = record {
+  in_range = omega arith;
+  stored = word_turn _ _ _ _ _ c.args.copies _ _ _ (search rules) c.loop-i.invariant.stored c.store_word.ensures;
+}
