@@ -13,7 +13,7 @@ use rules::{Answer, Argument, Entry, Outcome, Process, Request, Ring, Verdict};
 
 // "arguments of direction 2 and 3 are copied from the copies back to their recorded places": one argument, whose copy stands in the
 // array from a word on.
-#[tactic(auto, using(crate::proofs::Laws::input, crate::proofs::Laws::output))]
+#[tactic(auto, using(crate::proofs::Laws::input))]
 fn back_one(s: &mut [u32], len: u32, old: Ring, a: Argument, copies: [u32; 64], from: u32)
     requires { (from + a.length ≤ 64) × (a.offset + a.length ≤ 1024) }
     ensures { s.new ≡ apply len (back_one copies old.0 from a) s.old }
