@@ -1,7 +1,7 @@
 /* Counts the copies of a whole record: preloaded, it stands before memcpy and tells at the end how many calls copied 3,328 bytes or more
    (the entries alone are 3,328) and fewer than 8,192.
      cc -O1 -fno-builtin -shared -fPIC -o target/copies.so bench/copies.c
-     LD_PRELOAD=target/copies.so target/bin/run < input                                                                              */
+     LD_PRELOAD=target/copies.so crates/run/out/run < input                                                                              */
 #include <stddef.h>
 #include <stdio.h>
 

@@ -2,7 +2,7 @@
 // after each step. docs/TRACE.md has its input and output. What is decoded, set and digested is proved in `desk` and `probe`.
 #![tactic(auto)]
 
-ghost use Rattle.std.specs.Prelude.{◌+◌, ◌≤◌, length};
+ghost use Rattle.std.specs.Prelude.{◌≡◌, ◌+◌, ◌≤◌, length, take};
 
 use desk::Asked;
 use probe::Told;
@@ -29,14 +29,16 @@ struct Shown {
 // ---- The lent parts: as long as asked, and no longer than there is room
 
 fn first_words(n: u32, s: &[u32]) -> usize
-    ensures { result ≤ length s.now }
+    ensures within { result ≤ length s.now }
+    ensures counted { result ≡ length (take result s.now) }
 {
     let k = n as usize;
     if k <= s.len() { k } else { s.len() }
 }
 
 fn first_bytes(n: u32, f: &[u8]) -> usize
-    ensures { result ≤ length f.now }
+    ensures within { result ≤ length f.now }
+    ensures counted { result ≡ length (take result f.now) }
 {
     let k = n as usize;
     if k <= f.len() { k } else { f.len() }
