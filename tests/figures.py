@@ -1,7 +1,7 @@
 #!/usr/bin/env python3
-"""figures.py [LOG]: for each crate its functions, lines of code, definitions and proofs, and its edits that must fail; with LOG, what
-`rt ci` printed, also the seconds of each check and edit. docs/FIGURES.md holds what it printed when it was last measured."""
-import glob, os, re, sys
+"""figures.py: for each crate its functions, lines of code, definitions and proofs, and its edits that must fail. docs/FIGURES.md holds
+what it printed when it was last measured."""
+import glob, os, re
 
 TOP = os.path.dirname(os.path.dirname(os.path.abspath(__file__)))
 
@@ -22,29 +22,15 @@ def functions(crate):
     return len(every), sum(1 for e in every if e)
 
 
-def seconds(log):
-    """crate -> (seconds of its check, seconds of its edits)"""
-    out = {}
-    for line in open(log, encoding="utf-8", errors="replace"):
-        proved = re.match(r"rt: (\w+) proved \((\d+) s\)", line)
-        edit = re.match(r"rt: must-fail (\w+)/\w+: refused.*; (\d+) s\)", line)
-        if proved:
-            out.setdefault(proved.group(1), [0, 0])[0] = int(proved.group(2))
-        if edit:
-            out.setdefault(edit.group(1), [0, 0])[1] += int(edit.group(2))
-    return out
-
-
 def main():
     crates = [l.split(":")[0] for l in open(os.path.join(TOP, "crates.txt"), encoding="utf-8") if ":" in l and not l.startswith("#")]
-    took = seconds(sys.argv[1]) if len(sys.argv) > 1 else {}
-    print("| crate | functions | public | code | definitions | proofs | edits that must fail | check, s | edits, s |")
-    print("|---|---|---|---|---|---|---|---|---|")
-    sums = [0] * 8
+    print("| crate | functions | public | code | definitions | proofs | edits that must fail |")
+    print("|---|---|---|---|---|---|---|")
+    sums = [0] * 6
     for c in crates:
         every, public = functions(c)
         row = [every, public, lines("crates/%s/src/**/*.rt" % c), lines("crates/%s/specs/**/*.antt" % c), lines("crates/%s/proofs/**/*.antt" % c),
-               len(glob.glob(os.path.join(TOP, "crates", c, "must-fail", "*.edit")))] + took.get(c, [0, 0])
+               len(glob.glob(os.path.join(TOP, "crates", c, "must-fail", "*.edit")))]
         sums = [a + b for a, b in zip(sums, row)]
         print("| `%s` | %s |" % (c, " | ".join(str(x) for x in row)))
     print("| all | %s |" % " | ".join(str(x) for x in sums))

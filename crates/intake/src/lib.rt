@@ -16,12 +16,15 @@ pub struct Filled {
 }
 
 // What went wrong, on standard error; there is nobody to tell that this failed too.
-fn tell<R: Eprint>(rt: &R, name: &str, error: &Error) {
-    let _ = eprintln!(rt; "{name}: {error}");
+fn tell<R: Eprint>(rt: &R, name: &[u8], error: &Error) {
+    let _ = match str::from_utf8(name) {
+        Ok(text) => eprintln!(rt; "{text}: {error}"),
+        Err(_) => eprintln!(rt; "{}: {error}", name.escape_ascii()),
+    };
 }
 
 // Reads until the room is full, the input ends or a read fails, which it says on standard error.
-pub fn fill<R: Eprint, T: Read>(rt: &R, from: &mut T, name: &str, room: &mut [u8]) -> Filled
+pub fn fill<R: Eprint, T: Read>(rt: &R, from: &mut T, name: &[u8], room: &mut [u8]) -> Filled
     ensures { result.count ≤ length room.new }
 {
     let mut count: usize = 0;
@@ -59,14 +62,14 @@ pub fn segment_file<R: Files + Eprint>(rt: &R, room: &mut [u8]) -> usize
     }
     match File::open(rt, "segments") {
         Ok(mut file) => {
-            let f = fill(rt, &mut file, "segments", room);
+            let f = fill(rt, &mut file, b"segments", room);
             if f.failed { 1 } else { f.count }
         }
         Err(e) => {
             if e.kind() == ErrorKind::NotFound {
                 return 0;
             }
-            tell(rt, "segments", &e);
+            tell(rt, b"segments", &e);
             1
         }
     }

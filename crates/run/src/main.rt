@@ -23,7 +23,7 @@ fn serve_some<R: Eprint, I: Read, O: Write>(
     p: Process,
 ) -> io::Result<Served> {
     let mut input = [0u8; 12288];
-    let n = intake::fill(rt, from, "standard input", &mut input).count;
+    let n = intake::fill(rt, from, b"standard input", &mut input).count;
     let mut out = [0u8; 65536];
     let done = turns::answer(file, s, p, &input[..n], &mut out);
     to.write_all(&out[..done.at])?;

@@ -258,7 +258,7 @@ fn serve_some<R: Eprint, I: Read, O: Write>(
     b: Bench,
 ) -> io::Result<Served> {
     let mut input = [0u8; 9600];
-    let n = intake::fill(rt, from, "standard input", &mut input).count;
+    let n = intake::fill(rt, from, b"standard input", &mut input).count;
     let mut out = [0u8; 65536];
     let done = trace_records(file, store, b, &input[..n], &mut out);
     to.write_all(&out[..done.at])?;
