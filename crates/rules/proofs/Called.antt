@@ -12,7 +12,7 @@ use Rattle.rules.specs.declared.Ring.{Ring}
 use Rattle.rules.specs.declared.Process.{Process}
 use Rattle.rules.specs.declared.Request.{Request}
 use Rattle.rules.specs.declared.Seen.{Seen}
-use Rattle.rules.specs.declared.Verdict.TheVariants.{Accepted}
+use Rattle.std.specs.Prelude.{Ok}
 use Rattle.rules.specs.Memory.{spot, word, stack_length}
 use Rattle.rules.specs.Segments.{file_sound}
 use Rattle.rules.specs.Record.{placed, process_sound}
@@ -24,7 +24,7 @@ use Rattle.rules.proofs.Memory.{length_told}
 use Rattle.rules.proofs.Segments.{segment_facts}
 use Rattle.rules.proofs.Bracket.{Aimed, aimed_at, entered_other, entered_below}
 use Rattle.rules.proofs.Arguments.{Listing, list_facts}
-use Rattle.rules.proofs.Verdicts.{Judged, call_facts, call_accepts, enters-ring}
+use Rattle.rules.proofs.Verdicts.{Judged, call_facts, call_accepts}
 
 -- ---- the words of a list of n arguments
 
@@ -80,16 +80,16 @@ pub record Called (top : ℕ) (f m : List ℕ) (p : Process) (q : Request) (v : 
 module _ (top : ℕ) (f m : List ℕ) (p : Process) (q : Request) where
   -- the facts of its tests give acceptance
   pub call_passes : Judged top (file_sound top f) (process_sound top (stack_length m) p) p.calls q (seen f m p.ring p.made q)
-      → call_verdict top f m p q ≡ Accepted
+      → call_verdict top f m p q ≡ Ok tt
   unfolding call_verdict
   call_passes j = call_accepts top (file_sound top f) (process_sound top (stack_length m) p) p.calls q (seen f m p.ring p.made q) j
 
-  pub called : call_verdict top f m p q ≡ Accepted → Called top f m p q (seen f m p.ring p.made q)
+  pub called : call_verdict top f m p q ≡ Ok tt → Called top f m p q (seen f m p.ring p.made q)
   unfolding call_verdict seen decision handed handed_of
   called e =
       let v = seen f m p.ring p.made q in
       let j = call_facts top (file_sound top f) (process_sound top (stack_length m) p) p.calls q v e in
-      let a = aimed_at f p.ring q.fault q.target q.offset (to v) (enters-ring v.decision j.enters) in
+      let a = aimed_at f p.ring q.fault q.target q.offset (to v) j.enters in
       let s = segment_facts top f q.target a.s j.listed a.listed in
       record {
         tests = j;

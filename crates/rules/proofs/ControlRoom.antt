@@ -8,7 +8,7 @@ use native.Mathlib.Omega.{arith}
 use lib.ListN.{take}
 use Rattle.rules.specs.declared.Ring.{Ring}
 use Rattle.rules.specs.declared.Request.{Request}
-use Rattle.rules.specs.declared.Verdict.TheVariants.{Accepted}
+use Rattle.std.specs.Prelude.{Ok}
 use Rattle.rules.specs.Memory.{spot, word, stack_length}
 use Rattle.rules.specs.Made.{is_made}
 use Rattle.rules.specs.Record.{newest}
@@ -39,7 +39,7 @@ module _ (top : ℕ) (low : top ≤ 63) (f : List ℕ) {r : Ring} {s : State} {h
 
   -- "What an outer program writes cannot change where a return goes": an accepted return gives back the frame, the argument place and
   -- the return place as they stood when the call that it strikes was made, whatever was written since.
-  pub return_goes : (q : Request) → returns q ≡ true → verdict top f s (crosses q) ≡ Accepted
+  pub return_goes : (q : Request) → returns q ≡ true → verdict top f s (crosses q) ≡ Ok tt
       → (c : Call) × (cs : List Call) × (unstruck h ≡ c ∷ cs) × Restored f (step top f s (crosses q)) (outcome top f s (crosses q)).answer c
   return_goes q w v = (demand3 top f low run (crosses q) refl).restored q refl w v
 
@@ -47,7 +47,7 @@ module _ (top : ℕ) (low : top ≤ 63) (f : List ℕ) {r : Ring} {s : State} {h
   pub record Crosses (e : Event) (k : ℕ) : Type 0 where
     pub request : Request
     pub is : e ≡ crosses request
-    pub accepted : verdict top f s e ≡ Accepted
+    pub accepted : verdict top f s e ≡ Ok tt
     pub side : (s.process.ring.0 ≡ k) ⊎ ((step top f s e).process.ring.0 ≡ k)
 
   -- the accepted write e stores word o of stack k, from the stack's own ring or a lower one
@@ -56,7 +56,7 @@ module _ (top : ℕ) (low : top ≤ 63) (f : List ℕ) {r : Ring} {s : State} {h
     pub value : ℕ
     pub is : e ≡ writes stack o value
     pub own : stack.0 ≡ k
-    pub accepted : verdict top f s e ≡ Accepted
+    pub accepted : verdict top f s e ≡ Ok tt
     pub lower : s.process.ring.0 ≤ k
 
   -- "A keeper's stack is touched only by its own ring, lower rings, and crossings into or out of it."
@@ -65,16 +65,16 @@ module _ (top : ℕ) (low : top ≤ 63) (f : List ℕ) {r : Ring} {s : State} {h
       ⊎ (Writes e k o ⊎ Crosses e k)
   touched_only e b k o l = ⊎_elim inl (λ m. inr (by m.1 m.0)) ((demand3 top f low run e b).words k o l)
     where
-      leaves : (q : Request) → verdict top f s (crosses q) ≡ Accepted → Crosses (crosses q) s.process.ring.0
+      leaves : (q : Request) → verdict top f s (crosses q) ≡ Ok tt → Crosses (crosses q) s.process.ring.0
       leaves q v = record { request = q; is = refl; accepted = v; side = inl refl }
 
-      calls : (q : Request) → returns q ≡ false → verdict top f s (crosses q) ≡ Accepted → Crosses (crosses q) (new_ring f s q)
+      calls : (q : Request) → returns q ≡ false → verdict top f s (crosses q) ≡ Ok tt → Crosses (crosses q) (new_ring f s q)
       calls q w v = record { request = q; is = refl; accepted = v; side = inr (ap (λ (x : Ring). x.0) (ring_called top f s q w v)) }
 
-      goes_back : (q : Request) → returns q ≡ true → verdict top f s (crosses q) ≡ Accepted → Crosses (crosses q) (newest s.process).old.0
+      goes_back : (q : Request) → returns q ≡ true → verdict top f s (crosses q) ≡ Ok tt → Crosses (crosses q) (newest s.process).old.0
       goes_back q w v = record { request = q; is = refl; accepted = v; side = inr (ap (λ (x : Ring). x.0) (ring_returned top f s q w v)) }
 
-      by : {e : Event} {k o : ℕ} → May f s e k o → verdict top f s e ≡ Accepted → Writes e k o ⊎ Crosses e k
+      by : {e : Event} {k o : ℕ} → May f s e k o → verdict top f s e ≡ Ok tt → Writes e k o ⊎ Crosses e k
       by (written {k = j} {v = w} a) v = inl (record { stack = j; value = w; is = refl; own = refl; accepted = v; lower = a })
       by (call_left {q = q} w a) v = inr (leaves q v)
       by (call_frame {q = q} w a b) v = inr (calls q w v)
@@ -93,14 +93,14 @@ module _ (top : ℕ) (low : top ≤ 63) (f : List ℕ) {r : Ring} {s : State} {h
   spare e b k o made lo hi =
       ⊎_elim inl (λ m. by m.1 m.0 made lo hi) ((demand3 top f low run e b).words k o (omega (arith, run_long run)))
     where
-      high : (q : Request) → returns q ≡ false → verdict top f s (crosses q) ≡ Accepted → 40 ≤ (sees f s q).fresh
+      high : (q : Request) → returns q ≡ false → verdict top f s (crosses q) ≡ Ok tt → 40 ≤ (sees f s q).fresh
       high q w v = fresh_high top f s.memory s.process q (called top f s.memory s.process q (rw w at v))
 
-      back_high : {o : ℕ} (q : Request) → returns q ≡ true → verdict top f s (crosses q) ≡ Accepted
+      back_high : {o : ℕ} (q : Request) → returns q ≡ true → verdict top f s (crosses q) ≡ Ok tt
           → Covers (take (newest s.process).count (newest s.process).arguments) o → 8 ≤ o
       back_high {o} q w v c = (lands top (stack_length s.memory) s.process.made s.process.ring (newest s.process) o (returned top f s q (rw w at v)).open_entry c).low
 
-      by : {e : Event} {k o : ℕ} → May f s e k o → verdict top f s e ≡ Accepted → is_made s.process.made k ≡ true → 5 ≤ o → o < 8
+      by : {e : Event} {k o : ℕ} → May f s e k o → verdict top f s e ≡ Ok tt → is_made s.process.made k ≡ true → 5 ≤ o → o < 8
           → (word (step top f s e).memory (spot (stack_length s.memory) k o) ≡ word s.memory (spot (stack_length s.memory) k o))
           ⊎ Writes e k o
       by (written {k = j} {v = w} a) v m l h = inr (record { stack = j; value = w; is = refl; own = refl; accepted = v; lower = a })

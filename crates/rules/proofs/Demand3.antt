@@ -12,8 +12,8 @@ use Rattle.rules.specs.declared.Entry.{Entry}
 use Rattle.rules.specs.declared.Process.{Process}
 use Rattle.rules.specs.declared.Request.{Request}
 use Rattle.rules.specs.declared.Answer.{Answer}
-use Rattle.rules.specs.declared.Verdict.{Verdict}
-use Rattle.rules.specs.declared.Verdict.TheVariants.{Accepted, Refused}
+use Rattle.rules.specs.Answer.{Verdict}
+use Rattle.std.specs.Prelude.{Ok, Err}
 use Rattle.rules.specs.Tests.{pick}
 use Rattle.rules.specs.Memory.{spot, word, Store, puts, apply, stack_length}
 use Rattle.rules.specs.Record.{process_sound, newest, struck}
@@ -36,7 +36,7 @@ module _ (top : ℕ) (f : List ℕ) where
   MayIn s e k o = (o < stack_length s.memory) × May f s e k o
 
   crossing_may : (s : State) (q : Request) (b : Bool) → returns q ≡ b
-      → pick b (return_verdict top f s.memory s.process q) (call_verdict top f s.memory s.process q) ≡ Accepted
+      → pick b (return_verdict top f s.memory s.process q) (call_verdict top f s.memory s.process q) ≡ Ok tt
       → Each (MayIn s (crosses q))
       (pick b (return_stores s.memory (stack_length s.memory) s.process.ring (newest s.process))
       (call_stores s.memory s.process.ring s.process.made s.process.calls s.process.serial q (sees f s q)))
@@ -45,9 +45,9 @@ module _ (top : ℕ) (f : List ℕ) where
       let t = returned top f s q v in each_return top f s q w t.long.1 t.open_entry
   crossing_may s q false w v = each_call top f s q w (called top f s.memory s.process q v)
 
-  stores_may : (s : State) (e : Event) → begins e (verdict top f s e) ≡ false → verdict top f s e ≡ Accepted → Each (MayIn s e) (stores top f s e)
+  stores_may : (s : State) (e : Event) → begins e (verdict top f s e) ≡ false → verdict top f s e ≡ Ok tt → Each (MayIn s e) (stores top f s e)
   unfolding MayIn reach_verdict
-  stores_may s (starts k) b v = absurd (let n : begins (starts k) Accepted ≡ false = rw v at b in let z : ◌≡◌ {A = ℕ} 0 1 = cc in omega arith)
+  stores_may s (starts k) b v = absurd (let n : begins (starts k) (Ok tt) ≡ false = rw v at b in let z : ◌≡◌ {A = ℕ} 0 1 = cc in omega arith)
   stores_may s (crosses q) b v = crossing_may s q (returns q) refl v
   stores_may s (writes k at w) b v =
       let h = reach_facts top (stack_length s.memory) (process_sound top (stack_length s.memory) s.process) s.process.ring k at 1 v in
@@ -56,21 +56,21 @@ module _ (top : ℕ) (f : List ℕ) where
   stores_may s (looks k at) b v = nothing
 
   -- a step that is no accepted start stores into the store it was handed
-  ground_is : (s : State) (e : Event) (v : Verdict) → begins e v ≡ false → v ≡ Accepted → ground top f s e ≡ s.memory
-  ground_is s (starts k) Accepted b v = absurd (let z : ◌≡◌ {A = ℕ} 0 1 = cc in omega arith)
-  ground_is s (starts k) (Refused n reason) b v = absurd (let z : ◌≡◌ {A = ℕ} 0 1 = cc in omega arith)
+  ground_is : (s : State) (e : Event) (v : Verdict) → begins e v ≡ false → v ≡ Ok tt → ground top f s e ≡ s.memory
+  ground_is s (starts k) (Ok tt) b v = absurd (let z : ◌≡◌ {A = ℕ} 0 1 = cc in omega arith)
+  ground_is s (starts k) (Err r) b v = absurd (let z : ◌≡◌ {A = ℕ} 0 1 = cc in omega arith)
   ground_is s (crosses q) v b w = refl
   ground_is s (writes k at x) v b w = refl
   ground_is s (looks k at) v b w = refl
 
   words_change : (s : State) (e : Event) (v : Verdict) → verdict top f s e ≡ v → begins e v ≡ false → (k o : ℕ) → o < stack_length s.memory
       → (word (step top f s e).memory (spot (stack_length s.memory) k o) ≡ word s.memory (spot (stack_length s.memory) k o))
-      ⊎ ((v ≡ Accepted) × May f s e k o)
+      ⊎ ((v ≡ Ok tt) × May f s e k o)
   unfolding MayIn
-  words_change s e (Refused n reason) v b k o l = inl (ap (λ (t : State). word t.memory (spot (stack_length s.memory) k o)) (refused-step top f s e n reason v))
-  words_change s e Accepted v b k o l =
+  words_change s e (Err x) v b k o l = inl (ap (λ (t : State). word t.memory (spot (stack_length s.memory) k o)) (refused-step top f s e x v))
+  words_change s e (Ok tt) v b k o l =
       let L = stack_length s.memory in
-      let g = ground_is s e Accepted b refl in
+      let g = ground_is s e (Ok tt) b refl in
       let m : memory_after top f s e ≡ apply L (stores top f s e) s.memory = accepted_memory top f s e v ∙ ap (apply L (stores top f s e)) g in
       let each = stores_may s e (ap (begins e) v ∙ b) v in
       ⊎_elim
@@ -80,33 +80,33 @@ module _ (top : ℕ) (f : List ℕ) where
 
   -- ---- the ring after an accepted crossing
 
-  pub ring_called : (s : State) (q : Request) → returns q ≡ false → verdict top f s (crosses q) ≡ Accepted
+  pub ring_called : (s : State) (q : Request) → returns q ≡ false → verdict top f s (crosses q) ≡ Ok tt
       → (step top f s (crosses q)).process.ring ≡ to (sees f s q)
   unfolding call_next
   ring_called s q w v =
       let p = s.process in
-      let v' : call_verdict top f s.memory p q ≡ Accepted = rw w at v in
+      let v' : call_verdict top f s.memory p q ≡ Ok tt = rw w at v in
       let c = called top f s.memory p q v' in
       ap (λ (x : Process). x.ring)
       (accepted_process top f s (crosses q) v ∙ (ap (λ (b : Bool). pick b (struck p) (call_next p q (sees f s q))) w
       ∙ added_is p (call_entry p.ring p.serial q (sees f s q)) (to (sees f s q)) c.tests.room))
 
-  pub ring_returned : (s : State) (q : Request) → returns q ≡ true → verdict top f s (crosses q) ≡ Accepted
+  pub ring_returned : (s : State) (q : Request) → returns q ≡ true → verdict top f s (crosses q) ≡ Ok tt
       → (step top f s (crosses q)).process.ring ≡ (newest s.process).old
   ring_returned s q w v =
       let p = s.process in
-      let v' : return_verdict top f s.memory p q ≡ Accepted = rw w at v in
+      let v' : return_verdict top f s.memory p q ≡ Ok tt = rw w at v in
       let t = returned top f s q v' in
       ap (λ (x : Process). x.ring)
       (accepted_process top f s (crosses q) v ∙ (ap (λ (b : Bool). pick b (struck p) (call_next p q (sees f s q))) w ∙ struck_is p t.tests.opens t.few))
 
   -- ---- claim 4: how the ring falls
 
-  ring-after : (s : State) (e : Event) → verdict top f s e ≡ Accepted → (step top f s e).process.ring ≡ (next top f s e).ring
+  ring-after : (s : State) (e : Event) → verdict top f s e ≡ Ok tt → (step top f s e).process.ring ≡ (next top f s e).ring
   ring-after s e v = ap (λ (p : Process). p.ring) (accepted_process top f s e v)
 
   falls_way : (r : Ring) (s : State) (q : Request) (u : List Call) (n : ℕ) (g : ℕ → Bool) (b : Bool) → returns q ≡ b
-      → pick b (return_verdict top f s.memory s.process q) (call_verdict top f s.memory s.process q) ≡ Accepted
+      → pick b (return_verdict top f s.memory s.process q) (call_verdict top f s.memory s.process q) ≡ Ok tt
       → Inv f r s.process u n g
       → (pick b (struck s.process) (call_next s.process q (sees f s q))).ring.0 < s.process.ring.0
       → Falls f s.process.ring u (crosses q)
@@ -135,15 +135,15 @@ module _ (top : ℕ) (f : List ℕ) where
       rw c.is (back w down)
 
   ring-falls : (r : Ring) (s : State) (u : List Call) (n : ℕ) (g : ℕ → Bool) (e : Event) (v : Verdict) → verdict top f s e ≡ v → begins e v ≡ false
-      → Inv f r s.process u n g → (step top f s e).process.ring.0 < s.process.ring.0 → (v ≡ Accepted) × Falls f s.process.ring u e
-  ring-falls r s u n g e (Refused m reason) v b i less =
-      absurd (lt_irrefl s.process.ring.0 (rw (refused-process top f s e m reason v) at less))
-  ring-falls r s u n g (starts k) Accepted v b i less = absurd (let z : ◌≡◌ {A = ℕ} 0 1 = cc in omega arith)
-  ring-falls r s u n g (crosses q) Accepted v b i less =
+      → Inv f r s.process u n g → (step top f s e).process.ring.0 < s.process.ring.0 → (v ≡ Ok tt) × Falls f s.process.ring u e
+  ring-falls r s u n g e (Err x) v b i less =
+      absurd (lt_irrefl s.process.ring.0 (rw (refused-process top f s e x v) at less))
+  ring-falls r s u n g (starts k) (Ok tt) v b i less = absurd (let z : ◌≡◌ {A = ℕ} 0 1 = cc in omega arith)
+  ring-falls r s u n g (crosses q) (Ok tt) v b i less =
       (refl, falls_way r s q u n g (returns q) refl v i (rw (accepted_process top f s (crosses q) v) at less))
-  ring-falls r s u n g (writes k at x) Accepted v b i less =
+  ring-falls r s u n g (writes k at x) (Ok tt) v b i less =
       absurd (lt_irrefl s.process.ring.0 (rw (accepted_process top f s (writes k at x) v) at less))
-  ring-falls r s u n g (looks k at) Accepted v b i less =
+  ring-falls r s u n g (looks k at) (Ok tt) v b i less =
       absurd (lt_irrefl s.process.ring.0 (rw (accepted_process top f s (looks k at) v) at less))
 
   -- ---- claim 3: what a return restores
@@ -183,13 +183,13 @@ module _ (top : ℕ) (f : List ℕ) where
       ap (λ (x : List ℕ). word x (spot L e.old.0 3)) split ∙ (stays ∙ there)
 
   restores : (r : Ring) (s : State) (q : Request) (u : List Call) (n : ℕ) (g : ℕ → Bool) → top ≤ 63 → returns q ≡ true
-      → verdict top f s (crosses q) ≡ Accepted → Inv f r s.process u n g
+      → verdict top f s (crosses q) ≡ Ok tt → Inv f r s.process u n g
       → (c : Call) × (cs : List Call) × (u ≡ c ∷ cs) × Restored f (step top f s (crosses q)) (outcome top f s (crosses q)).answer c
   unfolding call_entry return_answer outcome
   restores r s q u n g low w v i =
       let L = stack_length s.memory in
       let p = s.process in
-      let v' : return_verdict top f s.memory p q ≡ Accepted = rw w at v in
+      let v' : return_verdict top f s.memory p q ≡ Ok tt = rw w at v in
       let t = returned top f s q v' in
       let some = t.tests.opens in
       let c = top_of (entry_in f) p.calls p.entries u some i.entries in
@@ -232,10 +232,10 @@ module _ (top : ℕ) (f : List ℕ) where
         restored = restored;
         falls = ring-falls r s (unstruck h) (calls_in h) (is_entered f r h) e (verdict top f s e) refl b i;
         words = words_change s e (verdict top f s e) refl b;
-        refused = λ n reason v. refused-step top f s e n reason v;
+        refused = λ r v. refused-step top f s e r v;
       }
     where
-      restored : (q : Request) → e ≡ crosses q → returns q ≡ true → verdict top f s e ≡ Accepted
+      restored : (q : Request) → e ≡ crosses q → returns q ≡ true → verdict top f s e ≡ Ok tt
           → (c : Call) × (cs : List Call) × (unstruck h ≡ c ∷ cs) × Restored f (step top f s e) (outcome top f s e).answer c
       restored q is w v =
           subst (λ (x : Event). (c : Call) × (cs : List Call) × (unstruck h ≡ c ∷ cs) × Restored f (step top f s x) (outcome top f s x).answer c) (sym is)

@@ -7,6 +7,7 @@ pub mod Bracket
 pub mod Marked
 pub mod Record
 pub mod Arguments
+pub mod Sums
 pub mod Refusals
 pub mod Verdicts
 pub mod Called

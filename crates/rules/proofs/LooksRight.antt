@@ -15,8 +15,8 @@ use Rattle.rules.specs.declared.Process.{Process}
 use Rattle.rules.specs.declared.Segment.{Segment}
 use Rattle.rules.specs.declared.Request.{Request}
 use Rattle.rules.specs.declared.Seen.{Seen}
-use Rattle.rules.specs.declared.Decision.TheVariants.{Enter}
-use Rattle.rules.specs.declared.Verdict.TheVariants.{Accepted, Refused}
+use Rattle.std.specs.Prelude.{Ok, Err}
+use Rattle.rules.specs.declared.Refused.{Refused}
 use Rattle.rules.specs.Tests.{pick}
 use Rattle.rules.specs.Memory.{spot, words, Store, puts}
 use Rattle.rules.specs.Bracket.{goes_out, decision_of}
@@ -81,12 +81,12 @@ pub list_handed : (q : Request) (v : Seen) → (call_answer q v).place ≡ v.fre
 unfolding call_answer
 list_handed q v = refl
 
-pub no_outer_write : (top L : ℕ) (sound : Bool) (ring k : Ring) (at : ℕ) → k.0 < ring.0 → judged_reach top L sound ring k at 1 ≡ Accepted → ⊥
+pub no_outer_write : (top L : ℕ) (sound : Bool) (ring k : Ring) (at : ℕ) → k.0 < ring.0 → judged_reach top L sound ring k at 1 ≡ Ok tt → ⊥
 no_outer_write top L sound ring k at outer e = let h = reach_facts top L sound ring k at 1 e in omega (arith, h.above)
 
 -- "Entering r1 on an inward call": it enters r2
 pub inward_enters_r2 : (r : Ring) (fault offset : ℕ) (s : Segment) (hit : Bool) (to : Ring) → goes_out r s ≡ false
-    → decision_of r fault offset s hit ≡ Enter to → to ≡ s.r2
+    → decision_of r fault offset s hit ≡ Ok to → to ≡ s.r2
 inward_enters_r2 r fault offset s hit to way e =
     ⊎_elim (λ o. absurd (let t = lt-ltb r.0 s.r1.0 o.below in let z : ◌≡◌ {A = ℕ} 0 1 = cc in omega arith)) (λ i. i.into) (entered r fault offset s hit to e).way
 
@@ -99,6 +99,6 @@ pub low_level_passes : (top : ℕ) (r : Ring) (v : Seen) → r.0 ≤ top → v.s
 low_level_passes top r v low below = le-ltb top v.saved.0 (omega arith)
 
 -- "Making a stack before room is known": a refused step stores nothing, and so makes no stack
-pub refused_stores_nothing : (top : ℕ) (f : List ℕ) (s : State) (e : Event) (n reason : ℕ) → verdict top f s e ≡ Refused n reason
+pub refused_stores_nothing : (top : ℕ) (f : List ℕ) (s : State) (e : Event) (r : Refused) → verdict top f s e ≡ Err r
     → memory_after top f s e ≡ s.memory
-refused_stores_nothing top f s e n reason v = ap (λ (t : State). t.memory) (refused-step top f s e n reason v)
+refused_stores_nothing top f s e r v = ap (λ (t : State). t.memory) (refused-step top f s e r v)

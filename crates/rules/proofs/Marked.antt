@@ -6,10 +6,10 @@ use mathlib.Core.List.{List, [], ◌∷◌, map}
 use Prim.Native.Nat.{ℕ}
 use Rattle.rules.specs.declared.Ring.{Ring}
 use Rattle.rules.specs.declared.Segment.{Segment}
-use Rattle.rules.specs.declared.Decision.{Decision}
-use Rattle.rules.specs.declared.Decision.TheVariants.{Enter, Refuse}
+use Rattle.rules.specs.Bracket.{Decision, goes_out, fault_of, decision_of}
+use Rattle.std.specs.Prelude.{Ok, Err}
+use Rattle.rules.specs.declared.Barred.TheVariants.{AboveR3, NoCrossing, FromRing0}
 use Rattle.rules.specs.Tests.{refuse_if}
-use Rattle.rules.specs.Bracket.{goes_out, fault_of, decision_of}
 
 -- a segment's brackets, the caller's ring, and the document's answer
 pub record Case : Type 0 where
@@ -31,17 +31,17 @@ decided c = decision_of c.caller (fault_of (goes_out c.caller c.segment)) 0 c.se
 
 pub cases : List Case
 cases =
-    from 0 63 63 40 (Refuse 4)
-    ∷ from 0 1 63 1 (Refuse 4)
-    ∷ from 0 1 63 2 (Enter (ring 1))
-    ∷ from 1 1 63 33 (Enter (ring 1))
-    ∷ from 1 1 63 0 (Refuse 6)
-    ∷ from 0 0 1 1 (Enter (ring 0))
-    ∷ from 0 0 1 2 (Refuse 3)
-    ∷ from 32 33 35 31 (Enter (ring 32))
-    ∷ from 32 33 35 33 (Refuse 4)
-    ∷ from 32 33 35 35 (Enter (ring 33))
-    ∷ from 32 33 35 36 (Refuse 3)
+    from 0 63 63 40 (Err NoCrossing)
+    ∷ from 0 1 63 1 (Err NoCrossing)
+    ∷ from 0 1 63 2 (Ok (ring 1))
+    ∷ from 1 1 63 33 (Ok (ring 1))
+    ∷ from 1 1 63 0 (Err FromRing0)
+    ∷ from 0 0 1 1 (Ok (ring 0))
+    ∷ from 0 0 1 2 (Err AboveR3)
+    ∷ from 32 33 35 31 (Ok (ring 32))
+    ∷ from 32 33 35 33 (Err NoCrossing)
+    ∷ from 32 33 35 35 (Ok (ring 33))
+    ∷ from 32 33 35 36 (Err AboveR3)
     ∷ []
 
 pub marked : map decided cases ≡ map (λ c. c.answer) cases

@@ -1,16 +1,16 @@
--- Laws of specs/Memory.antt: stores one after the other, a loop's turns, what is read after the stores, and lengths. Assumes nothing.
+-- Laws of specs/Memory.antt: stores one after the other, what is read after the stores, and lengths. Assumes nothing.
 use mathlib.Core.Path.{◌≡◌, refl, sym, ap, ◌∙◌}
 use mathlib.Core.Bool.{Bool, true, false, ◌&&◌}
 use mathlib.Core.Logic.{⊎_elim, ◌⊎◌, inl, inr}
 use mathlib.Core.List.{List, [], ◌∷◌, ◌++◌}
 use Prim.Native.Nat.{ℕ, zero, suc, ◌+◌, ◌*◌, ◌/◌, ◌%◌, ◌<◌, ◌≤◌}
 use native.Mathlib.Numerals.{add-one}
-use native.Mathlib.Nat.{suc-add, add-suc, add-zero, zero-add, add_assoc, not-suc-le-zero, suc-mul, mul-le-mul_right, eq-or-lt_of_le, le_of_suc-le-suc}
+use native.Mathlib.Nat.{suc-add, add-suc, add-zero, zero-add, not-suc-le-zero, suc-mul, mul-le-mul_right, eq-or-lt_of_le, le_of_suc-le-suc}
 use native.Mathlib.Decide.{dec_lt, ℕ_discrete}
 use native.Mathlib.Omega.{arith}
 use lib.Dec.{leb, eqb}
-use lib.ListN.{length, get_or, set, take, length-set, length-append, get_or-append}
-use lib.Seq.{take-suc, length-take-le, get_or_at, get_or-set_other, get_or-set_same}
+use lib.ListN.{length, get_or, set, length-set, length-append, get_or-append}
+use lib.Seq.{get_or_at, get_or-set_other, get_or-set_same}
 use borrow.Author.Tests.{leb-true, eqb-true}
 use Rattle.rules.specs.Tests.{pick}
 use Rattle.rules.specs.Memory.{spot, word, up_to, word_from, words, Store, puts, apply, permitted, stack_length, made_word, make_stack}
@@ -108,24 +108,6 @@ after L a f m s t p q = rw (apply-append, ← p) q
 pub none : (L k at : ℕ) (m : List ℕ) → m ≡ apply L (puts k at []) m
 unfolding apply puts
 none L k at m = refl
-
--- a turn stores v after vs, at place p + n where p is the place of the first
-pub turn : (L k at p n v : ℕ) (vs ws m s t : List ℕ) → p ≡ spot L k at → s ≡ apply L (puts k at vs) m → t ≡ set s (p + n) v
-    → length vs ≡ n → ws ≡ vs ++ (v ∷ []) → t ≡ apply L (puts k at ws) m
-unfolding apply puts
-turn L k at p n v vs ws m s t e inv new long more =
-    rw (more, puts-append, apply-append, long, ← inv, ← add_assoc, ← e) new
-
--- the loop that stores f 0, f 1, ..
-pub each_turn : (f : ℕ → ℕ) (L k at p i : ℕ) (m s t : List ℕ) → p ≡ spot L k at → s ≡ apply L (puts k at (up_to f i)) m
-    → t ≡ set s (p + i) (f i) → t ≡ apply L (puts k at (up_to f (i + 1))) m
-each_turn f L k at p i m s t e inv new = turn L k at p i (f i) (up_to f i) _ m s t e inv new (length-up_to f i) (up_to_more f i)
-
--- the loop that stores the elements of an array
-pub scatter_turn : (L k at p i : ℕ) (a m s t : List ℕ) → i < length a → p ≡ spot L k at → s ≡ apply L (puts k at (take i a)) m
-    → t ≡ set s (p + i) (get_or a i 0) → t ≡ apply L (puts k at (take (i + 1) a)) m
-scatter_turn L k at p i a m s t l e inv new =
-    turn L k at p i (get_or a i 0) (take i a) _ m s t e inv new (length-take-le i a (omega arith)) (rw add-one (take-suc a i 0 l))
 
 -- two stores, one after the other
 pub two : (L k at p a b : ℕ) (m s t : List ℕ) → p ≡ spot L k at → s ≡ set m p a → t ≡ set s (p + 1) b

@@ -1,6 +1,6 @@
--- Laws of specs/Record.antt: the walk over the open entries, and what soundness says of an open entry. Assumes nothing.
+-- Laws of specs/Record.antt: what soundness says of an open entry. Assumes nothing.
 use mathlib.Core.Path.{◌≡◌, refl}
-use mathlib.Core.Bool.{Bool, true, false, ◌&&◌, and_assoc, and-true}
+use mathlib.Core.Bool.{Bool, true, false, ◌&&◌}
 use mathlib.Core.List.{List, [], ◌∷◌}
 use Prim.Native.Nat.{ℕ, zero, suc, ◌+◌, ◌-◌, ◌<◌, ◌≤◌}
 use native.Mathlib.Nat.{not-suc-le-zero}
@@ -16,24 +16,6 @@ use Rattle.rules.specs.Tests.{pick, all_from}
 use Rattle.rules.specs.Made.{is_made}
 use Rattle.rules.specs.Record.{no_entry, argument_at, placed, argument_sound, argument_rule, arguments_sound, inward_sound, outward_sound, open_tests, open_sound, opened, chained, zero_at, process_sound, newest}
 use Rattle.rules.proofs.Tests.{and_l, and_r, conj_at, below_at}
-
--- ---- the walk from the newest entry to the oldest
-
-opened_down : (i : ℕ) (es : List Entry) → 0 < i → opened i es ≡ get_or es (i - 1) no_entry ∷ opened (i - 1) es
-unfolding opened
-opened_down zero es h = absurd (not-suc-le-zero h)
-opened_down (suc n) es h = let e : suc n - 1 ≡ n = omega arith in rw e
-
-module _ (top L made : ℕ) (es : List Entry) (i : ℕ) (entered : Ring) (ok w : Bool) where
-  pub chain_turn : (r : Bool) → 0 < i → r ≡ open_sound top L made entered (get_or es (i - 1) no_entry)
-      → ok && chained top L made entered (opened i es) ≡ w
-      → ok && r && chained top L made (get_or es (i - 1) no_entry).old (opened (i - 1) es) ≡ w
-  unfolding chained
-  chain_turn r h e inv = rw (e, and_assoc) (rw (opened_down i es h) at inv)
-
-  pub chain_done : i ≤ 0 → ok && chained top L made entered (opened i es) ≡ w → ok ≡ w
-  unfolding chained opened
-  chain_done h inv = let z : i ≡ 0 = omega arith in rw (z, and-true) at inv
 
 -- ---- what soundness says of the record
 

@@ -17,14 +17,14 @@ use Rattle.rules.specs.declared.Ring.{Ring}
 use Rattle.rules.specs.declared.Entry.{Entry}
 use Rattle.rules.specs.declared.Process.{Process}
 use Rattle.rules.specs.declared.Request.{Request}
-use Rattle.rules.specs.declared.Verdict.{Verdict}
-use Rattle.rules.specs.declared.Verdict.TheVariants.{Accepted, Refused}
+use Rattle.rules.specs.Answer.{Verdict, memory_by, outcome_by}
+use Rattle.std.specs.Prelude.{Ok, Err}
+use Rattle.rules.specs.declared.Refused.{Refused}
 use Rattle.rules.specs.Tests.{pick}
 use Rattle.rules.specs.Memory.{apply, stack_length}
 use Rattle.rules.specs.Made.{is_made, with_made, next_serial}
 use Rattle.rules.specs.Segments.{file_sound}
 use Rattle.rules.specs.Record.{no_entry, zero_entry, opened, process_sound, newest, added, struck}
-use Rattle.rules.specs.Answer.{memory_by, outcome_by}
 use Rattle.rules.specs.Call.{to, call_verdict, call_entry, call_next}
 use Rattle.rules.specs.Return.{return_verdict}
 use Rattle.rules.specs.Step.{Event, starts, crosses, writes, looks, State, returns, start_next, verdict, ground, stores, next, given, outcome, memory_after, step}
@@ -94,21 +94,21 @@ struck_is p some most = rw (lt-ltb 0 p.calls some, le-leb p.calls 32 most)
 -- ---- a step, by its verdict
 
 module _ (top : ℕ) (f : List ℕ) (s : State) (e : Event) where
-  pub accepted_memory : verdict top f s e ≡ Accepted → memory_after top f s e ≡ apply (stack_length s.memory) (stores top f s e) (ground top f s e)
+  pub accepted_memory : verdict top f s e ≡ Ok tt → memory_after top f s e ≡ apply (stack_length s.memory) (stores top f s e) (ground top f s e)
   unfolding memory_after
   accepted_memory v = rw v
 
-  pub accepted_process : verdict top f s e ≡ Accepted → (outcome top f s e).process ≡ next top f s e
+  pub accepted_process : verdict top f s e ≡ Ok tt → (outcome top f s e).process ≡ next top f s e
   unfolding outcome
   accepted_process v = ap (λ (w : Verdict). (outcome_by w s.process (next top f s e) (given top f s e)).process) v
 
-  pub refused-process : (n reason : ℕ) → verdict top f s e ≡ Refused n reason → (outcome top f s e).process ≡ s.process
+  pub refused-process : (r : Refused) → verdict top f s e ≡ Err r → (outcome top f s e).process ≡ s.process
   unfolding outcome
-  refused-process n reason v = ap (λ (w : Verdict). (outcome_by w s.process (next top f s e) (given top f s e)).process) v
+  refused-process r v = ap (λ (w : Verdict). (outcome_by w s.process (next top f s e) (given top f s e)).process) v
 
-  pub refused-step : (n reason : ℕ) → verdict top f s e ≡ Refused n reason → step top f s e ≡ s
+  pub refused-step : (r : Refused) → verdict top f s e ≡ Err r → step top f s e ≡ s
   unfolding outcome memory_after
-  refused-step n reason v = rw v
+  refused-step r v = rw v
 
 -- an accepted return, by its facts
 pub record Returned (top : ℕ) (f : List ℕ) (s : State) (q : Request) : Type 0 where
@@ -117,7 +117,7 @@ pub record Returned (top : ℕ) (f : List ℕ) (s : State) (q : Request) : Type 
   pub few : s.process.calls ≤ 32
   pub open_entry : Held top (stack_length s.memory) s.process.made s.process.ring (newest s.process)
 
-pub returned : (top : ℕ) (f : List ℕ) (s : State) (q : Request) → return_verdict top f s.memory s.process q ≡ Accepted → Returned top f s q
+pub returned : (top : ℕ) (f : List ℕ) (s : State) (q : Request) → return_verdict top f s.memory s.process q ≡ Ok tt → Returned top f s q
 unfolding return_verdict
 returned top f s q e =
     let L = stack_length s.memory in
@@ -147,7 +147,7 @@ pub record Inv (f : List ℕ) (r : Ring) (p : Process) (u : List Call) (n : ℕ)
 
 module _ (top : ℕ) (low : top ≤ 63) (f : List ℕ) (r : Ring) where
   -- a call adds itself
-  keep_call : (s : State) (q : Request) (u : List Call) (n : ℕ) (in-set : ℕ → Bool) → call_verdict top f s.memory s.process q ≡ Accepted
+  keep_call : (s : State) (q : Request) (u : List Call) (n : ℕ) (in-set : ℕ → Bool) → call_verdict top f s.memory s.process q ≡ Ok tt
       → Inv f r s.process u n in-set
       → Inv f r (call_next s.process q (sees f s q)) (record { before = s; request = q } ∷ u) (n + 1) (λ k. in-set k || eqb k (to (sees f s q)).0)
   unfolding call_next call_entry
@@ -169,7 +169,7 @@ module _ (top : ℕ) (low : top ≤ 63) (f : List ℕ) (r : Ring) where
       })
 
   -- a return strikes the newest
-  keep_return : (s : State) (q : Request) (u : List Call) (n : ℕ) (in-set : ℕ → Bool) → return_verdict top f s.memory s.process q ≡ Accepted
+  keep_return : (s : State) (q : Request) (u : List Call) (n : ℕ) (in-set : ℕ → Bool) → return_verdict top f s.memory s.process q ≡ Ok tt
       → Inv f r s.process u n in-set → Inv f r (struck s.process) (tail u) n in-set
   unfolding call_entry
   keep_return s q u n in-set v i =
@@ -196,7 +196,7 @@ module _ (top : ℕ) (low : top ≤ 63) (f : List ℕ) (r : Ring) where
   Kept s h = Inv f r s.process (unstruck h) (calls_in h) (is_entered f r h)
 
   -- the record after an accepted start
-  keep_start : (s : State) → verdict top f s (starts r) ≡ Accepted → Kept (step top f s (starts r)) []
+  keep_start : (s : State) → verdict top f s (starts r) ≡ Ok tt → Kept (step top f s (starts r)) []
   unfolding start_next opened
   keep_start s v =
       let h = start_facts top (stack_length s.memory) r v in
@@ -226,7 +226,7 @@ module _ (top : ℕ) (low : top ≤ 63) (f : List ℕ) (r : Ring) where
 
   -- a crossing, by its way
   keep_way : (s : State) (q : Request) (b : Bool) (u : List Call) (n : ℕ) (in-set : ℕ → Bool)
-      → pick b (return_verdict top f s.memory s.process q) (call_verdict top f s.memory s.process q) ≡ Accepted
+      → pick b (return_verdict top f s.memory s.process q) (call_verdict top f s.memory s.process q) ≡ Ok tt
       → Inv f r s.process u n in-set
       → Inv f r (pick b (struck s.process) (call_next s.process q (sees f s q))) (pick b (tail u) (record { before = s; request = q } ∷ u))
       (n + pick b 0 1) (λ k. in-set k || pick b false (eqb k (to (sees f s q)).0))
@@ -236,21 +236,21 @@ module _ (top : ℕ) (low : top ≤ 63) (f : List ℕ) (r : Ring) where
   -- one step more, by what was asked and how it was judged
   keep_step : (s : State) (h : List Done) (e : Event) (v : Verdict) → verdict top f s e ≡ v → begins e v ≡ false → Kept s h
       → Kept (step top f s e) (record { before = s; event = e; verdict = v } ∷ h)
-  keep_step s h (crosses q) Accepted v b i =
+  keep_step s h (crosses q) (Ok tt) v b i =
       rw (accepted_process top f s (crosses q) v) (keep_way s q (returns q) (unstruck h) (calls_in h) (is_entered f r h) v i)
-  keep_step s h (writes k at w) Accepted v b i =
+  keep_step s h (writes k at w) (Ok tt) v b i =
       rw (accepted_process top f s (writes k at w) v) (quiet s.process (unstruck h) (calls_in h) (is_entered f r h) i)
-  keep_step s h (looks k at) Accepted v b i =
+  keep_step s h (looks k at) (Ok tt) v b i =
       rw (accepted_process top f s (looks k at) v) (quiet s.process (unstruck h) (calls_in h) (is_entered f r h) i)
-  keep_step s h (starts k) Accepted v b i = absurd (let z : ◌≡◌ {A = ℕ} 0 1 = cc in omega arith)
-  keep_step s h (crosses q) (Refused n reason) v b i =
-      rw (refused-process top f s (crosses q) n reason v) (quiet s.process (unstruck h) (calls_in h) (is_entered f r h) i)
-  keep_step s h (writes k at w) (Refused n reason) v b i =
-      rw (refused-process top f s (writes k at w) n reason v) (quiet s.process (unstruck h) (calls_in h) (is_entered f r h) i)
-  keep_step s h (looks k at) (Refused n reason) v b i =
-      rw (refused-process top f s (looks k at) n reason v) (quiet s.process (unstruck h) (calls_in h) (is_entered f r h) i)
-  keep_step s h (starts k) (Refused n reason) v b i =
-      rw (refused-process top f s (starts k) n reason v) (quiet s.process (unstruck h) (calls_in h) (is_entered f r h) i)
+  keep_step s h (starts k) (Ok tt) v b i = absurd (let z : ◌≡◌ {A = ℕ} 0 1 = cc in omega arith)
+  keep_step s h (crosses q) (Err x) v b i =
+      rw (refused-process top f s (crosses q) x v) (quiet s.process (unstruck h) (calls_in h) (is_entered f r h) i)
+  keep_step s h (writes k at w) (Err x) v b i =
+      rw (refused-process top f s (writes k at w) x v) (quiet s.process (unstruck h) (calls_in h) (is_entered f r h) i)
+  keep_step s h (looks k at) (Err x) v b i =
+      rw (refused-process top f s (looks k at) x v) (quiet s.process (unstruck h) (calls_in h) (is_entered f r h) i)
+  keep_step s h (starts k) (Err x) v b i =
+      rw (refused-process top f s (starts k) x v) (quiet s.process (unstruck h) (calls_in h) (is_entered f r h) i)
 
   pub kept : {s : State} {h : List Done} → Run top f r s h → Kept s h
   kept (begun s v) = keep_start s v
@@ -274,8 +274,8 @@ step-length top f s e = by (verdict top f s e)
     ground_long (looks k at) = refl
 
     by : (v : Verdict) → length (memory_by v s.memory (apply (stack_length s.memory) (stores top f s e) (ground top f s e))) ≡ length s.memory
-    by Accepted = length-apply (stack_length s.memory) (stores top f s e) (ground top f s e) ∙ ground_long e
-    by (Refused n reason) = refl
+    by (Ok tt) = length-apply (stack_length s.memory) (stores top f s e) (ground top f s e) ∙ ground_long e
+    by (Err r) = refl
 
 -- "with .. one stack length": every state of a run has a permitted one, and a step keeps it
 pub step_long : (top : ℕ) (f : List ℕ) (s : State) (e : Event) → stack_length (step top f s e).memory ≡ stack_length s.memory

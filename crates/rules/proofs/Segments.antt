@@ -1,17 +1,15 @@
--- Laws of specs/Segments.antt (document 01, "Segment file"): a loop's turns over a search, what a sound file says of its records
--- and of the segment that a look-up finds, and what a gate hit says. Assumes nothing.
+-- Laws of specs/Segments.antt (document 01, "Segment file"): what a search finds, what a sound file says of its records and of
+-- the segment that a look-up finds, and what a gate hit says. Assumes nothing.
 use mathlib.Core.Path.{◌≡◌, refl, sym, ap, ◌∙◌}
 use mathlib.Core.Bool.{Bool, true, false, ◌&&◌, ◌||◌}
 use mathlib.Core.List.{List, [], ◌∷◌}
-use Prim.Native.Nat.{ℕ, zero, suc, ◌+◌, ◌-◌, ◌*◌, ◌%◌, ◌≤◌, ◌<◌, min}
+use Prim.Native.Nat.{ℕ, zero, suc, ◌+◌, ◌*◌, ◌%◌, ◌≤◌, ◌<◌, min}
 use native.Mathlib.Omega.{arith}
 use lib.Dec.{leb, ltb, eqb}
 use lib.ListN.{length, get_or}
 use borrow.Author.Tests.{leb-true, ltb-true, eqb-true, lt-leb}
 use Rattle.rules.specs.declared.Segment.{Segment}
-use Rattle.rules.specs.declared.Found.{Found}
-use Rattle.rules.specs.declared.Found.TheVariants.{At, Nothing}
-use Rattle.rules.specs.declared.Lookup.TheVariants.{Listed}
+use Rattle.std.specs.Prelude.{Option, Some, None}
 use Rattle.rules.specs.Tests.{pick, all_from}
 use Rattle.rules.specs.Segments.{
   records,
@@ -37,33 +35,18 @@ use Rattle.rules.specs.Segments.{
   gate_hit,
   is_gate,
 }
-use Rattle.rules.proofs.Tests.{left, done, and_l, and_r, all_at, any_at}
+use Rattle.rules.proofs.Tests.{and_l, and_r, all_at, any_at}
 
--- ---- a search over n places, of which i are done
-
-module _ (p : ℕ → Bool) (n i : ℕ) where
-  first_turn : i < n → first_from p i (n - i) ≡ pick (p i) (At i) (first_from p (i + 1) (n - (i + 1)))
-  unfolding first_from
-  first_turn h = rw (left n i h)
-
-  pub first_more : i < n → p i ≡ false → first_from p i (n - i) ≡ first_from p (i + 1) (n - (i + 1))
-  first_more h t = first_turn h ∙ rw t
-
-  pub first_stop : i < n → p i ≡ true → first_from p i (n - i) ≡ At i
-  first_stop h t = first_turn h ∙ rw t
-
-  pub first_done : n ≤ i → first_from p i (n - i) ≡ Nothing
-  unfolding first_from
-  first_done h = rw (done n i h)
+-- ---- a search
 
 -- what a search finds is a place of its run, and the test passes there
-pub first_at : (p : ℕ → Bool) (i d k : ℕ) → first_from p i d ≡ At k → (p k ≡ true) × (k < i + d)
+pub first_at : (p : ℕ → Bool) (i d k : ℕ) → first_from p i d ≡ Some k → (p k ≡ true) × (k < i + d)
 unfolding first_from
 first_at p i zero k t = absurd (let z : ◌≡◌ {A = ℕ} 0 1 = cc in omega arith)
 first_at p i (suc d) k t = go (p i) refl t (first_at p (i + 1) d k)
   where
-    go : (b : Bool) → p i ≡ b → pick b (At i) (first_from p (i + 1) d) ≡ At k
-        → (first_from p (i + 1) d ≡ At k → (p k ≡ true) × (k < i + 1 + d)) → (p k ≡ true) × (k < i + suc d)
+    go : (b : Bool) → p i ≡ b → pick b (Some i) (first_from p (i + 1) d) ≡ Some k
+        → (first_from p (i + 1) d ≡ Some k → (p k ≡ true) × (k < i + 1 + d)) → (p k ≡ true) × (k < i + suc d)
     go true e t ih = let s : i ≡ k = cc in (rw (← s) e, omega arith)
     go false e t ih = let h = ih t in (h.0, omega arith)
 
@@ -148,13 +131,13 @@ pub record ListedAs (f : List ℕ) (x : ℕ) (s : Segment) : Type 0 where
   pub named : number_at f s.at ≡ x
   pub says : s ≡ segment_at f s.at
 
-pub listed_facts : (f : List ℕ) (x : ℕ) (s : Segment) → lookup_of f x ≡ Listed s → ListedAs f x s
+pub listed_facts : (f : List ℕ) (x : ℕ) (s : Segment) → lookup_of f x ≡ Some s → ListedAs f x s
 unfolding lookup_of found segment_at
 listed_facts f x s e = go (found f x) refl e
   where
-    go : (d : Found) → found f x ≡ d → listed_at f d ≡ Listed s → ListedAs f x s
-    go Nothing q e = absurd (let z : ◌≡◌ {A = ℕ} 0 1 = cc in omega arith)
-    go (At k) q e =
+    go : (d : Option ℕ) → found f x ≡ d → listed_at f d ≡ Some s → ListedAs f x s
+    go None q e = absurd (let z : ◌≡◌ {A = ℕ} 0 1 = cc in omega arith)
+    go (Some k) q e =
         let h = first_at (numbered f x) 0 (min (records f) 192) k q in
         let w : s ≡ segment_at f k = cc in
         let a : s.at ≡ k = ap (λ (t : Segment). t.at) w in
@@ -175,7 +158,7 @@ pub record SoundSegment (top : ℕ) (f : List ℕ) (x : ℕ) (s : Segment) : Typ
   pub second : s.r2.0 ≤ s.r3.0
   pub third : s.r3.0 ≤ top
 
-pub segment_facts : (top : ℕ) (f : List ℕ) (x : ℕ) (s : Segment) → file_sound top f ≡ true → lookup_of f x ≡ Listed s
+pub segment_facts : (top : ℕ) (f : List ℕ) (x : ℕ) (s : Segment) → file_sound top f ≡ true → lookup_of f x ≡ Some s
     → SoundSegment top f x s
 unfolding segment_at
 segment_facts top f x s e l =

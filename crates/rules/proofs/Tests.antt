@@ -1,14 +1,15 @@
 -- Laws of specs/Tests.antt: what a list of tests, a run of tests and a list of refusals tell, and a loop's turns over a run.
 -- Assumes nothing.
-use mathlib.Core.Path.{◌≡◌, refl, sym, ap₂, ◌∙◌}
+use mathlib.Core.Path.{◌≡◌, refl, ap₂}
 use mathlib.Core.Logic.{⊎_elim}
-use mathlib.Core.Bool.{Bool, true, false, ◌&&◌, ◌||◌, and_assoc, and-true, false≢true}
+use mathlib.Core.Bool.{Bool, true, false, ◌&&◌, ◌||◌, false≢true}
 use mathlib.Core.List.{List, [], ◌∷◌, ◌++◌}
 use Prim.Native.Nat.{ℕ, zero, suc, ◌+◌, ◌-◌, ◌≤◌, ◌<◌}
 use native.Mathlib.Nat.{not-suc-le-zero, le_of_suc-le-suc, eq-or-lt_of_le}
 use native.Mathlib.Decide.{dec_lt}
 use native.Mathlib.Omega.{arith}
 use lib.ListN.{get_or}
+use Rattle.std.specs.Prelude.{Ok, Err}
 use Rattle.rules.specs.Tests.{pick, conj_on, conj, all_from, any_from, all_below, how_many, refuse_if, Refusal, first}
 
 pub and_l : (a b : Bool) → a && b ≡ true → a ≡ true
@@ -88,27 +89,6 @@ module _ (p : ℕ → Bool) (n i : ℕ) where
   unfolding all_from
   all_done h = rw (done n i h)
 
-  -- the same for a loop that gathers the answers and goes on whatever they are
-  pub gather_more : (ok r w : Bool) → i < n → r ≡ p i → ok && all_from p i (n - i) ≡ w → ok && r && all_from p (i + 1) (n - (i + 1)) ≡ w
-  unfolding all_from
-  gather_more ok r w h e inv = rw (e, and_assoc) (rw (left n i h) at inv)
-
-  pub gather_done : (ok w : Bool) → n ≤ i → ok && all_from p i (n - i) ≡ w → ok ≡ w
-  unfolding all_from
-  gather_done ok w h inv = rw (done n i h, and-true) at inv
-
-  pub any_more : i < n → p i ≡ false → any_from p i (n - i) ≡ any_from p (i + 1) (n - (i + 1))
-  unfolding any_from
-  any_more h t = rw (left n i h, t)
-
-  pub any_stop : i < n → p i ≡ true → any_from p i (n - i) ≡ true
-  unfolding any_from
-  any_stop h t = rw (left n i h, t)
-
-  pub any_done : n ≤ i → any_from p i (n - i) ≡ false
-  unfolding any_from
-  any_done h = rw (done n i h)
-
 -- ---- each place below n
 
 pub below_at : (f : ℕ → Bool) (n k : ℕ) → all_below f n ≡ true → k < n → f k ≡ true
@@ -146,38 +126,33 @@ one_more p q k (suc n) h a b o = go (dec_lt k n) (one_more p q k n)
 
 -- ---- refusals in their order
 
--- none of the refusals is given
-abbrev pub None : {A : Type 0} → List (Refusal A) → Type 0
-None [] = Unit {0}
-None (t ∷ ts) = (t.when ≡ false) × None ts
+-- no refusal of the list is one
+abbrev pub Passed : {E : Type 0} → List (Refusal E) → Type 0
+Passed [] = Unit {0}
+Passed (t ∷ ts) = (t ≡ Ok tt) × Passed ts
 
--- each refusal gives something that is refused
-abbrev pub Refuses : {A : Type 0} → (A → Bool) → List (Refusal A) → Type 0
-Refuses accepts [] = Unit {0}
-Refuses accepts (t ∷ ts) = (accepts t.gives ≡ false) × Refuses accepts ts
+pub not_refused : {E : Type 0} (b : Bool) (e : E) → refuse_if b e ≡ Ok tt → b ≡ false
+unfolding refuse_if
+not_refused false e h = refl
+not_refused true e h = absurd (let z : ◌≡◌ {A = ℕ} 0 1 = cc in omega arith)
+
+pub lets_pass : {E : Type 0} {b : Bool} (e : E) → b ≡ false → refuse_if b e ≡ Ok tt
+unfolding refuse_if
+lets_pass e h = rw h
 
 -- an accepted answer: every refusal was passed, and the answer is the one at the end
-pub passed : {A : Type 0} (accepts : A → Bool) (ts : List (Refusal A)) (a : A) → Refuses accepts ts → accepts (first ts a) ≡ true
-    → None ts × (first ts a ≡ a)
-unfolding refuse_if
-passed accepts [] a r e = (tt, refl)
-passed accepts (t ∷ ts) a r e = go t.when refl e (passed accepts ts a r.1)
-  where
-    go : (b : Bool) → t.when ≡ b → accepts (refuse_if b t.gives (first ts a)) ≡ true
-        → (accepts (first ts a) ≡ true → None ts × (first ts a ≡ a))
-        → ((t.when ≡ false) × None ts) × (refuse_if t.when t.gives (first ts a) ≡ a)
-    go true q e ih = absurd (false≢true (sym r.0 ∙ e))
-    go false q e ih = let h = ih e in ((q, h.0), rw q h.1)
+pub passed : {A E : Type 0} (ts : List (Refusal E)) (a b : A) → first ts a ≡ Ok b → Passed ts × (a ≡ b)
+passed [] a b e = (tt, let q : Ok a ≡ Ok b = e in cc)
+passed (Ok tt ∷ ts) a b e = let h = passed ts a b e in ((refl, h.0), h.1)
+passed (Err r ∷ ts) a b e = absurd (let z : ◌≡◌ {A = ℕ} 0 1 = cc in omega arith)
 
 -- its dual: where no refusal is given, the answer is the one at the end
-pub through : {A : Type 0} (ts : List (Refusal A)) (a : A) → None ts → first ts a ≡ a
-unfolding refuse_if
+pub through : {A E : Type 0} (ts : List (Refusal E)) (a : A) → Passed ts → first ts a ≡ Ok a
 through [] a n = refl
 through (t ∷ ts) a n = rw n.0 (through ts a n.1)
 
--- a refusal is given exactly where it is the first whose test holds
-pub given-when : {A : Type 0} (ts : List (Refusal A)) (t : Refusal A) (us : List (Refusal A)) (a : A) → None ts → t.when ≡ true
-    → first (ts ++ t ∷ us) a ≡ t.gives
-unfolding refuse_if
-given-when [] t us a n h = rw h
-given-when (s ∷ ts) t us a n h = rw n.0 (given-when ts t us a n.1 h)
+-- a refusal is given exactly where it is the first of its list
+pub given-when : {A E : Type 0} (ts : List (Refusal E)) (e : E) (us : List (Refusal E)) (a : A) → Passed ts
+    → first (ts ++ Err e ∷ us) a ≡ Err e
+given-when [] e us a n = refl
+given-when (t ∷ ts) e us a n = rw n.0 (given-when ts e us a n.1)

@@ -1,43 +1,46 @@
 -- Document 01, "Call": when a call is accepted, and what it leaves. Assumes nothing.
-use Rattle.std.specs.Prelude.{Bool, true, false, ◌&&◌, ◌||◌, not, List, [], ◌∷◌, ◌++◌, ℕ, ◌+◌, ◌*◌, leb, ltb, eqb, take, replicate}
+use Rattle.std.specs.Prelude.{Bool, false, ◌&&◌, ◌||◌, not, List, [], ◌∷◌, ◌++◌, ℕ, ◌+◌, ◌*◌, leb, ltb, eqb, take, replicate, Option, Some, None, Ok, Err}
 use Rattle.rules.specs.declared.Ring.{Ring}
 use Rattle.rules.specs.declared.Level.{Level}
 use Rattle.rules.specs.declared.Argument.{Argument}
 use Rattle.rules.specs.declared.Entry.{Entry}
 use Rattle.rules.specs.declared.Process.{Process}
-use Rattle.rules.specs.declared.Lookup.{Lookup}
-use Rattle.rules.specs.declared.Lookup.TheVariants.{Listed, Unlisted}
-use Rattle.rules.specs.declared.Decision.{Decision}
-use Rattle.rules.specs.declared.Decision.TheVariants.{Enter, Refuse}
+use Rattle.rules.specs.declared.Segment.{Segment}
+use Rattle.rules.specs.declared.Unfit.{Unfit}
+use Rattle.rules.specs.declared.Refused.TheVariants.{StoreLength, SegmentFile, Target, ProcessRecord, FaultOrInstruction, Frame, RunningSegment, SavedLevel, CallsOpen, ArgumentList, TargetStack, NewFrame}
 use Rattle.rules.specs.declared.Request.{Request}
 use Rattle.rules.specs.declared.Handed.{Handed}
 use Rattle.rules.specs.declared.Seen.{Seen}
-use Rattle.rules.specs.declared.Verdict.{Verdict}
-use Rattle.rules.specs.declared.Verdict.TheVariants.{Accepted}
 use Rattle.rules.specs.declared.Answer.{Answer}
-use Rattle.rules.specs.Tests.{pick, Refusal, first}
+use Rattle.rules.specs.Tests.{pick, Refusal, refuse_if, first}
 use Rattle.rules.specs.Rings.{larger_of}
 use Rattle.rules.specs.Memory.{spot, word, words, Store, puts, stack_length, make_stack}
 use Rattle.rules.specs.Made.{is_made, next_serial}
 use Rattle.rules.specs.Segments.{file_sound, lookup_of, executes}
-use Rattle.rules.specs.Bracket.{stays, target_of, number_of, reason_of}
+use Rattle.rules.specs.Bracket.{Decision, stays, target_of}
 use Rattle.rules.specs.Record.{zero_argument, placed, process_sound, added}
 use Rattle.rules.specs.Arguments.{handed_of, copies_of, pointing}
-use Rattle.rules.specs.Answer.{number, places}
+use Rattle.rules.specs.Answer.{Verdict, places}
 
 -- "running segment unlisted, not execute, or ring outside r1..r2" (7)
-abbrev pub runs_in : Ring → Lookup → Bool
-runs_in r (Listed s) = executes s && stays r s
-runs_in r Unlisted = false
+abbrev pub runs_in : Ring → Option Segment → Bool
+runs_in r (Some s) = executes s && stays r s
+runs_in r None = false
 
 -- the ring of a decision that enters one
 abbrev pub entered : Decision → Ring
-entered (Enter to) = to
-entered (Refuse reason) = record { 0 = 0 }
+entered (Ok to) = to
+entered (Err b) = record { 0 = 0 }
 
-abbrev pub refuses : Decision → Bool
-refuses (Enter to) = false
-refuses (Refuse reason) = true
+-- "3 target refused, with reason"
+abbrev pub target_test : Decision → Verdict
+target_test (Ok to) = Ok tt
+target_test (Err b) = Err (Target b)
+
+-- "10 argument list refused, with reason"
+abbrev pub list_test : Refusal Unfit → Verdict
+list_test (Ok _) = Ok tt
+list_test (Err u) = Err (ArgumentList u)
 
 -- the way of a decision from ring r
 abbrev pub goes_outward : Ring → Decision → Bool
@@ -105,24 +108,24 @@ abbrev pub asked : Request → Bool
 asked q = (eqb q.fault 1 || eqb q.fault 2) && (eqb q.instruction 0 || eqb q.instruction 1)
 
 -- "Order, call: 1 2 4 5 6 7 8 9 3 10 11 12.", by whether file and record are sound, the open count, the request and what is seen
-abbrev pub call_tests : ℕ → Bool → Bool → ℕ → Request → Seen → List (Refusal Verdict)
+abbrev pub call_tests : ℕ → Bool → Bool → ℕ → Request → Seen → List Verdict
 call_tests top file sound calls q v =
-    number 1 0 (eqb v.len 0)
-    ∷ number 2 0 (not file)
-    ∷ number 4 0 (not sound)
-    ∷ number 5 0 (not (asked q))
-    ∷ number 6 0 (not (placed v.len q.frame 32))
-    ∷ number 7 0 (not (v.runs && eqb v.segment q.running && leb v.offset 262143))
-    ∷ number 8 0 (ltb top v.saved.0)
-    ∷ number 9 0 (leb 32 calls)
-    ∷ number (number_of v.decision) (reason_of v.decision) (refuses v.decision)
-    ∷ number 10 v.handed.reason (not (eqb v.handed.reason 0))
-    ∷ number 11 0 (not v.base)
-    ∷ number 12 0 (ltb v.len (end_of v))
+    refuse_if (eqb v.len 0) StoreLength
+    ∷ refuse_if (not file) SegmentFile
+    ∷ refuse_if (not sound) ProcessRecord
+    ∷ refuse_if (not (asked q)) FaultOrInstruction
+    ∷ refuse_if (not (placed v.len q.frame 32)) Frame
+    ∷ refuse_if (not (v.runs && eqb v.segment q.running && leb v.offset 262143)) RunningSegment
+    ∷ refuse_if (ltb top v.saved.0) SavedLevel
+    ∷ refuse_if (leb 32 calls) CallsOpen
+    ∷ target_test v.decision
+    ∷ list_test v.handed.fit
+    ∷ refuse_if (not v.base) TargetStack
+    ∷ refuse_if (ltb v.len (end_of v)) NewFrame
     ∷ []
 
 unfoldable pub judged : ℕ → Bool → Bool → ℕ → Request → Seen → Verdict
-judged top file sound calls q v = first (call_tests top file sound calls q v) Accepted
+judged top file sound calls q v = first (call_tests top file sound calls q v) tt
 
 unfoldable pub call_verdict : ℕ → List ℕ → List ℕ → Process → Request → Verdict
 call_verdict top f m p q = judged top (file_sound top f) (process_sound top (stack_length m) p) p.calls q (seen f m p.ring p.made q)

@@ -3,18 +3,17 @@
 -- A run begins with an accepted start and goes on with any events, each handed what the last one left; an accepted second start is
 -- no step of it. The history has the steps, newest first, each with the state that it was handed, so that ring, level, frame, argument
 -- place and return place of a call come from the history and not from the record's own entries.
-use Rattle.std.specs.Prelude.{◌≡◌, ◌⊎◌, Bool, true, false, ◌||◌, List, [], ◌∷◌, map, ℕ, ◌+◌, ◌%◌, ◌^◌, ◌≤◌, ◌<◌, eqb, length, take}
+use Rattle.std.specs.Prelude.{◌≡◌, ◌⊎◌, Bool, true, false, ◌||◌, List, [], ◌∷◌, map, ℕ, ◌+◌, ◌%◌, ◌^◌, ◌≤◌, ◌<◌, eqb, length, take, Some, Ok, Err}
 use Rattle.rules.specs.declared.Ring.{Ring}
 use Rattle.rules.specs.declared.Argument.{Argument}
 use Rattle.rules.specs.declared.Entry.{Entry}
 use Rattle.rules.specs.declared.Segment.{Segment}
-use Rattle.rules.specs.declared.Lookup.TheVariants.{Listed}
 use Rattle.rules.specs.declared.Request.{Request}
 use Rattle.rules.specs.declared.Seen.{Seen}
+use Rattle.rules.specs.declared.Refused.{Refused}
 use Rattle.rules.specs.declared.Answer.{Answer}
-use Rattle.rules.specs.declared.Verdict.{Verdict}
-use Rattle.rules.specs.declared.Verdict.TheVariants.{Accepted, Refused}
 use Rattle.rules.specs.Tests.{pick}
+use Rattle.rules.specs.Answer.{Verdict}
 use Rattle.rules.specs.Memory.{spot, word, stack_length}
 use Rattle.rules.specs.Made.{is_made}
 use Rattle.rules.specs.Segments.{lookup_of, is_gate}
@@ -32,8 +31,8 @@ pub record Done : Type 0 where
 
 -- "with no second start": an accepted start begins another run
 abbrev pub begins : Event → Verdict → Bool
-begins (starts r) Accepted = true
-begins (starts r) (Refused n reason) = false
+begins (starts r) (Ok _) = true
+begins (starts r) (Err e) = false
 begins (crosses q) v = false
 begins (writes k at w) v = false
 begins (looks k at) v = false
@@ -42,7 +41,7 @@ module _ (top : ℕ) (f : List ℕ) where
   -- "Take a process from its accepted start .. through any run of requests and program writes with no second start, each step handed
   -- what the last one left."
   pub data Run (r : Ring) : State → List Done → Type 0 where
-    begun : (s : State) → verdict top f s (starts r) ≡ Accepted → Run r (step top f s (starts r)) []
+    begun : (s : State) → verdict top f s (starts r) ≡ Ok tt → Run r (step top f s (starts r)) []
     then : {s : State} {h : List Done} → Run r s h → (e : Event) → begins e (verdict top f s e) ≡ false
         → Run r (step top f s e) (record { before = s; event = e; verdict = verdict top f s e } ∷ h)
 
@@ -59,8 +58,8 @@ tail (c ∷ cs) = cs
 
 -- "Strike each accepted return against the newest accepted call not yet struck."
 abbrev pub strike : State → Event → Verdict → List Call → List Call
-strike s (crosses q) Accepted cs = pick (returns q) (tail cs) (record { before = s; request = q } ∷ cs)
-strike s (crosses q) (Refused n reason) cs = cs
+strike s (crosses q) (Ok _) cs = pick (returns q) (tail cs) (record { before = s; request = q } ∷ cs)
+strike s (crosses q) (Err e) cs = cs
 strike s (starts r) v cs = cs
 strike s (writes k at w) v cs = cs
 strike s (looks k at) v cs = cs
@@ -72,8 +71,8 @@ unstruck (d ∷ h) = strike d.before d.event d.verdict (unstruck h)
 
 -- how many calls were accepted
 abbrev pub is_call : Event → Verdict → ℕ
-is_call (crosses q) Accepted = pick (returns q) 0 1
-is_call (crosses q) (Refused n reason) = 0
+is_call (crosses q) (Ok _) = pick (returns q) 0 1
+is_call (crosses q) (Err e) = 0
 is_call (starts r) v = 0
 is_call (writes k at w) v = 0
 is_call (looks k at) v = 0
@@ -103,8 +102,8 @@ module _ (f : List ℕ) where
 
   -- stack k is the start ring's, or one that an accepted call entered
   abbrev pub enters : ℕ → State → Event → Verdict → Bool
-  enters k s (crosses q) Accepted = pick (returns q) false (eqb k (to (sees s q)).0)
-  enters k s (crosses q) (Refused n reason) = false
+  enters k s (crosses q) (Ok _) = pick (returns q) false (eqb k (to (sees s q)).0)
+  enters k s (crosses q) (Err e) = false
   enters k s (starts r) v = false
   enters k s (writes j at w) v = false
   enters k s (looks j at) v = false
@@ -160,7 +159,7 @@ pub record Restored (f : List ℕ) (t : State) (a : Answer) (c : Call) : Type 0 
 -- "a call to a listed gate from the call bracket": the segment s is listed, r2 < ring ≤ r3, and the offset is one of its gates
 pub record ByGate (f : List ℕ) (ring : Ring) (q : Request) : Type 0 where
   pub s : Segment
-  pub listed : lookup_of f q.target ≡ Listed s
+  pub listed : lookup_of f q.target ≡ Some s
   pub above : s.r2.0 < ring.0
   pub within : ring.0 ≤ s.r3.0
   pub gated : is_gate f s.at q.offset ≡ true
@@ -181,14 +180,14 @@ pub record Demand3 (top : ℕ) (f : List ℕ) (r : Ring) (s : State) (h : List D
   pub serial : s.process.serial ≡ calls_in h % 2 ^ 32
   pub made : (k : ℕ) → is_made s.process.made k ≡ is_entered f r h k
   -- 3. "A return restores the ring, level, frame, argument place and return place of the call it strikes."
-  pub restored : (q : Request) → e ≡ crosses q → returns q ≡ true → verdict top f s e ≡ Accepted
+  pub restored : (q : Request) → e ≡ crosses q → returns q ≡ true → verdict top f s e ≡ Ok tt
       → (c : Call) × (cs : List Call) × (unstruck h ≡ c ∷ cs) × Restored f (step top f s e) (outcome top f s e).answer c
   -- 4. "The ring number falls only by a call to a listed gate from the call bracket, or by a return that strikes an outward call."
-  pub falls : (step top f s e).process.ring.0 < s.process.ring.0 → (verdict top f s e ≡ Accepted) × Falls f s.process.ring (unstruck h) e
+  pub falls : (step top f s e).process.ring.0 < s.process.ring.0 → (verdict top f s e ≡ Ok tt) × Falls f s.process.ring (unstruck h) e
   -- 5. "A stack word changes only by a write from its own ring or a lower one, or as one of 01's named words of a crossing into or out
   -- of its ring."
   pub words : (k o : ℕ) → o < stack_length s.memory
       → (word (step top f s e).memory (spot (stack_length s.memory) k o) ≡ word s.memory (spot (stack_length s.memory) k o))
-      ⊎ ((verdict top f s e ≡ Accepted) × May f s e k o)
+      ⊎ ((verdict top f s e ≡ Ok tt) × May f s e k o)
   -- 6. A refused step changes nothing.
-  pub refused : (n reason : ℕ) → verdict top f s e ≡ Refused n reason → step top f s e ≡ s
+  pub refused : (why : Refused) → verdict top f s e ≡ Err why → step top f s e ≡ s

@@ -5,14 +5,13 @@ use Rattle.rules.specs.declared.Argument.{Argument}
 use Rattle.rules.specs.declared.Entry.{Entry}
 use Rattle.rules.specs.declared.Process.{Process}
 use Rattle.rules.specs.declared.Request.{Request}
-use Rattle.rules.specs.declared.Verdict.{Verdict}
-use Rattle.rules.specs.declared.Verdict.TheVariants.{Accepted}
+use Rattle.rules.specs.declared.Refused.TheVariants.{StoreLength, SegmentFile, ProcessRecord, FaultOrInstruction, NothingToReturn}
 use Rattle.rules.specs.declared.Answer.{Answer}
-use Rattle.rules.specs.Tests.{pick, Refusal, first}
+use Rattle.rules.specs.Tests.{pick, refuse_if, first}
 use Rattle.rules.specs.Memory.{spot, words, Store, puts, stack_length}
 use Rattle.rules.specs.Segments.{file_sound}
 use Rattle.rules.specs.Record.{process_sound, newest}
-use Rattle.rules.specs.Answer.{number, places}
+use Rattle.rules.specs.Answer.{Verdict, places}
 use Rattle.rules.specs.Call.{asked}
 
 -- "arguments of direction 2 and 3 are copied from the copies back to their recorded places, in list order": the copies lie one
@@ -28,17 +27,17 @@ abbrev pub fault_back : Ring → Ring → ℕ
 fault_back ring old = pick (ltb old.0 ring.0) 1 2
 
 -- "Return: 1 2 4 5 13.", by L, whether file and record are sound, the open count, the running ring, the request and the newest entry
-abbrev pub return_tests : ℕ → Bool → Bool → ℕ → Ring → Request → Entry → List (Refusal Verdict)
+abbrev pub return_tests : ℕ → Bool → Bool → ℕ → Ring → Request → Entry → List Verdict
 return_tests L file sound calls ring q e =
-    number 1 0 (eqb L 0)
-    ∷ number 2 0 (not file)
-    ∷ number 4 0 (not sound)
-    ∷ number 5 0 (not (asked q))
-    ∷ number 13 0 (eqb calls 0 || not (eqb q.fault (fault_back ring e.old)))
+    refuse_if (eqb L 0) StoreLength
+    ∷ refuse_if (not file) SegmentFile
+    ∷ refuse_if (not sound) ProcessRecord
+    ∷ refuse_if (not (asked q)) FaultOrInstruction
+    ∷ refuse_if (eqb calls 0 || not (eqb q.fault (fault_back ring e.old))) NothingToReturn
     ∷ []
 
 unfoldable pub judged_back : ℕ → Bool → Bool → ℕ → Ring → Request → Entry → Verdict
-judged_back L file sound calls ring q e = first (return_tests L file sound calls ring q e) Accepted
+judged_back L file sound calls ring q e = first (return_tests L file sound calls ring q e) tt
 
 unfoldable pub return_verdict : ℕ → List ℕ → List ℕ → Process → Request → Verdict
 return_verdict top f m p q =

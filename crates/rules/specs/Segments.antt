@@ -1,10 +1,6 @@
 -- Document 01, "Segment file": when a file is sound, and what it says of a segment. Assumes nothing.
-use Rattle.std.specs.Prelude.{Bool, ◌&&◌, ◌||◌, List, ℕ, zero, suc, ◌+◌, ◌*◌, ◌/◌, ◌%◌, min, leb, ltb, eqb, length, get_or}
+use Rattle.std.specs.Prelude.{Bool, ◌&&◌, ◌||◌, List, ℕ, zero, suc, ◌+◌, ◌*◌, ◌/◌, ◌%◌, min, leb, ltb, eqb, length, get_or, Option, Some, None}
 use Rattle.rules.specs.declared.Segment.{Segment}
-use Rattle.rules.specs.declared.Found.{Found}
-use Rattle.rules.specs.declared.Found.TheVariants.{At, Nothing}
-use Rattle.rules.specs.declared.Lookup.{Lookup}
-use Rattle.rules.specs.declared.Lookup.TheVariants.{Listed, Unlisted}
 use Rattle.rules.specs.Tests.{pick, all_from, any_from}
 
 -- a byte; two and four bytes, high byte first; 0 past the end
@@ -77,15 +73,15 @@ unfoldable pub file_sound : ℕ → List ℕ → Bool
 file_sound top f = leb (records f) 192 && (eqb (length f % 40) 0 && all_from (record_sound top f) 0 (records f))
 
 -- the first of the d places i, i + 1, .. at which the test p passes
-unfoldable pub first_from : (ℕ → Bool) → ℕ → ℕ → Found
-first_from p i zero = Nothing
-first_from p i (suc d) = pick (p i) (At i) (first_from p (i + 1) d)
+unfoldable pub first_from : (ℕ → Bool) → ℕ → ℕ → Option ℕ
+first_from p i zero = None
+first_from p i (suc d) = pick (p i) (Some i) (first_from p (i + 1) d)
 
 -- the first record with that number, among the first 192
 abbrev pub numbered : List ℕ → ℕ → ℕ → Bool
 numbered f x i = eqb (number_at f i) x
 
-unfoldable pub found : List ℕ → ℕ → Found
+unfoldable pub found : List ℕ → ℕ → Option ℕ
 found f x = first_from (numbered f x) 0 (min (records f) 192)
 
 -- the brackets and the mode of record i
@@ -99,12 +95,12 @@ segment_at f i =
       mode = mode_of f i;
     }
 
-abbrev pub listed_at : List ℕ → Found → Lookup
-listed_at f (At i) = Listed (segment_at f i)
-listed_at f Nothing = Unlisted
+abbrev pub listed_at : List ℕ → Option ℕ → Option Segment
+listed_at f (Some i) = Some (segment_at f i)
+listed_at f None = None
 
 -- what the file says of the segment number x
-unfoldable pub lookup_of : List ℕ → ℕ → Lookup
+unfoldable pub lookup_of : List ℕ → ℕ → Option Segment
 lookup_of f x = listed_at f (found f x)
 
 -- offset is one of the gates of record i; the zeros past the count are no gates, "Offset 0 may be a gate."

@@ -4,15 +4,14 @@ use Rattle.std.specs.Prelude.{Bool, ◌||◌, not, List, [], ◌∷◌, ◌++◌
 use Rattle.rules.specs.declared.Ring.{Ring}
 use Rattle.rules.specs.declared.Process.{Process}
 use Rattle.rules.specs.declared.Request.{Request}
-use Rattle.rules.specs.declared.Verdict.{Verdict}
-use Rattle.rules.specs.declared.Verdict.TheVariants.{Accepted}
+use Rattle.rules.specs.declared.Refused.TheVariants.{StoreLength, ProcessRecord, StartRing, StackBelow, OutsideStack}
 use Rattle.rules.specs.declared.Answer.{Answer}
 use Rattle.rules.specs.declared.Outcome.{Outcome}
-use Rattle.rules.specs.Tests.{pick, Refusal, first}
+use Rattle.rules.specs.Tests.{pick, refuse_if, first}
 use Rattle.rules.specs.Memory.{Store, puts, apply, stack_length, make_stack}
 use Rattle.rules.specs.Made.{with_made}
 use Rattle.rules.specs.Record.{zero_entry, process_sound, newest, struck}
-use Rattle.rules.specs.Answer.{number, places, memory_by, outcome_by}
+use Rattle.rules.specs.Answer.{Verdict, places, memory_by, outcome_by}
 use Rattle.rules.specs.Call.{seen, call_verdict, call_stores, call_next, call_answer}
 use Rattle.rules.specs.Return.{return_verdict, return_stores, return_answer}
 
@@ -29,23 +28,23 @@ pub record State : Type 0 where
   pub process : Process
 
 -- "Start: 1 14."
-abbrev pub start_tests : ℕ → ℕ → Ring → List (Refusal Verdict)
-start_tests top L r = number 1 0 (eqb L 0) ∷ number 14 0 (ltb top r.0) ∷ []
+abbrev pub start_tests : ℕ → ℕ → Ring → List Verdict
+start_tests top L r = refuse_if (eqb L 0) StoreLength ∷ refuse_if (ltb top r.0) StartRing ∷ []
 
 unfoldable pub judged_start : ℕ → ℕ → Ring → Verdict
-judged_start top L r = first (start_tests top L r) Accepted
+judged_start top L r = first (start_tests top L r) tt
 
 -- "Write and look: 1 4 16 15": `room` words at an offset of stack k, by whether the record is sound and the running ring
-abbrev pub reach_tests : ℕ → ℕ → Bool → Ring → Ring → ℕ → ℕ → List (Refusal Verdict)
+abbrev pub reach_tests : ℕ → ℕ → Bool → Ring → Ring → ℕ → ℕ → List Verdict
 reach_tests top L sound ring k at room =
-    number 1 0 (eqb L 0)
-    ∷ number 4 0 (not sound)
-    ∷ number 16 0 (ltb top k.0 || ltb L (at + room))
-    ∷ number 15 0 (ltb k.0 ring.0)
+    refuse_if (eqb L 0) StoreLength
+    ∷ refuse_if (not sound) ProcessRecord
+    ∷ refuse_if (ltb top k.0 || ltb L (at + room)) OutsideStack
+    ∷ refuse_if (ltb k.0 ring.0) StackBelow
     ∷ []
 
 unfoldable pub judged_reach : ℕ → ℕ → Bool → Ring → Ring → ℕ → ℕ → Verdict
-judged_reach top L sound ring k at room = first (reach_tests top L sound ring k at room) Accepted
+judged_reach top L sound ring k at room = first (reach_tests top L sound ring k at room) tt
 
 -- "the record has this ring and stack and is otherwise zero"
 unfoldable pub start_next : Ring → Process

@@ -1,5 +1,5 @@
 -- How document 01's rules are put together: choices, lists of tests, runs of tests, refusals in their order. Assumes nothing.
-use Rattle.std.specs.Prelude.{Bool, true, false, ◌&&◌, ◌||◌, List, [], ◌∷◌, ℕ, zero, suc, ◌+◌}
+use Rattle.std.specs.Prelude.{Bool, true, false, ◌&&◌, ◌||◌, List, [], ◌∷◌, ℕ, zero, suc, ◌+◌, Result, Ok, Err, ⊤}
 
 abbrev pub pick : {A : Type 0} → Bool → A → A → A
 pick true a b = a
@@ -34,17 +34,17 @@ unfoldable pub how_many : (ℕ → Bool) → ℕ → ℕ
 how_many p zero = zero
 how_many p (suc n) = how_many p n + pick (p n) 1 0
 
--- one refusal: where the test says so, what it gives, and otherwise the rest decides
-unfoldable pub refuse_if : {A : Type 0} → Bool → A → A → A
-refuse_if true gives rest = gives
-refuse_if false gives rest = rest
+-- a refusal, or none
+abbrev pub Refusal : Type 0 → Type 0
+Refusal E = Result ⊤ E
 
--- a refusal of a list: when it is given, and what it gives
-pub record Refusal (A : Type 0) : Type 0 where
-  pub when : Bool
-  pub gives : A
+-- one refusal, where the test says so
+unfoldable pub refuse_if : {E : Type 0} → Bool → E → Refusal E
+refuse_if true e = Err e
+refuse_if false e = Ok tt
 
 -- the first refusal of a list, in its order, or the answer where there is none
-abbrev pub first : {A : Type 0} → List (Refusal A) → A → A
-first [] answer = answer
-first (t ∷ ts) answer = refuse_if t.when t.gives (first ts answer)
+abbrev pub first : {A E : Type 0} → List (Refusal E) → A → Result A E
+first [] answer = Ok answer
+first (Ok _ ∷ ts) answer = first ts answer
+first (Err e ∷ ts) answer = Err e

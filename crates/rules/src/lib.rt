@@ -1,19 +1,27 @@
 // Document 01 itself: the declared types here, its definitions in specs/, their laws in proofs/.
-// The crates above implement what stands here; the one function of code is the larger-of rule.
+// The crates above implement what stands here. The code here is what they share: the larger-of rule, one refusal of a list, a segment's
+// mode, the words of four arguments, an accepted answer, and (numbers.rt) the number and reason of each refusal.
 #![tactic(auto)]
 
-ghost use Rattle.std.specs.Prelude.{◌≡◌};
+ghost use Rattle.std.specs.Prelude.{◌≡◌, ◌<◌, ◌^◌};
 ghost use Rattle.rules.specs.Rings.{larger_of};
+ghost use Rattle.rules.specs.Segments.{reads, writes, executes};
+ghost use Rattle.rules.specs.Arguments.{words_in};
+ghost use Rattle.rules.specs.Answer.{places};
+ghost use Rattle.rules.specs.Tests.{refuse_if};
+
+mod numbers;
 
 // "Memory": the ring number says where a program runs, the validation level on whose behalf.
-#[derive(Clone, Copy)]
+#[derive(Clone, Copy, Debug, Default, PartialEq, Eq, PartialOrd, Ord)]
 pub struct Ring(pub u32);
 
-#[derive(Clone, Copy)]
+#[derive(Clone, Copy, Debug, Default, PartialEq, Eq, PartialOrd, Ord)]
 pub struct Level(pub u32);
 
-// "Process record": an argument of (segment, offset, length, direction).
-#[derive(Clone, Copy)]
+// "Process record": an argument of (segment, offset, length, direction). Its four words are what a list or a record holds, whatever
+// that is; numbers 10 and 4 (`argument_reasons`, `argument_sound`) say which are in order. So the direction stays a number.
+#[derive(Clone, Copy, Debug, Default, PartialEq, Eq)]
 pub struct Argument {
     pub segment: u32,
     pub offset: u32,
@@ -23,7 +31,7 @@ pub struct Argument {
 
 // An open-call entry: old ring, old frame, level, return segment, return offset, argument place,
 // prior last-used offset, new frame, argument count, serial, and four arguments.
-#[derive(Clone, Copy)]
+#[derive(Clone, Copy, Debug, Default, PartialEq, Eq)]
 pub struct Entry {
     pub old: Ring,
     pub frame: u32,
@@ -38,8 +46,9 @@ pub struct Entry {
     pub arguments: [Argument; 4],
 }
 
-// Ring; the set of stacks already made, one bit a ring; serial; open count; 32 entries.
-#[derive(Clone, Copy)]
+// Ring; the set of stacks already made, one bit a ring; serial; open count; 32 entries. The counts stand beside the arrays, here and in
+// an entry, as the document's form has it: "32 open-call entries held in the record itself".
+#[derive(Clone, Copy, Debug, PartialEq, Eq)]
 pub struct Process {
     pub ring: Ring,
     pub made: u64,
@@ -48,8 +57,9 @@ pub struct Process {
     pub entries: [Entry; 32],
 }
 
-// "Segment file": a listed segment, by the place of its record, its brackets and its mode.
-#[derive(Clone, Copy)]
+// "Segment file": a listed segment, by the place of its record, its brackets and its mode. The mode is the file's byte, whatever that is:
+// number 2 says whether it is in order.
+#[derive(Clone, Copy, Debug, PartialEq, Eq)]
 pub struct Segment {
     pub at: u8,
     pub r1: Ring,
@@ -58,29 +68,76 @@ pub struct Segment {
     pub mode: u8,
 }
 
-// The place of the first record with a number.
-#[derive(Clone, Copy)]
-pub enum Found {
-    At(u8),
-    Nothing,
+// "mode (1 read, 2 write, 4 execute, added)".
+impl Segment {
+    pub fn reads(self) -> bool
+        ensures { result ≡ reads self }
+    {
+        self.mode % 2 == 1
+    }
+
+    pub fn writes(self) -> bool
+        ensures { result ≡ writes self }
+    {
+        self.mode / 2 % 2 == 1
+    }
+
+    pub fn executes(self) -> bool
+        ensures { result ≡ executes self }
+    {
+        self.mode / 4 % 2 == 1
+    }
 }
 
-// What the file says of a segment number.
-#[derive(Clone, Copy)]
-pub enum Lookup {
-    Listed(Segment),
+// Why a target is refused, number 3: "1 unlisted or offset above 262143; 2 not execute; 3 above r3; 4 no crossing; 7 the fault's
+// direction differs; 5 inward, not a gate; 6 outward from ring 0".
+#[derive(Clone, Copy, Debug, PartialEq, Eq)]
+pub enum Barred {
     Unlisted,
+    NotExecute,
+    AboveR3,
+    NoCrossing,
+    NotAGate,
+    FromRing0,
+    OtherFault,
 }
 
-// "Brackets": the ring that a call enters, or the reason of number 3.
-#[derive(Clone, Copy)]
-pub enum Decision {
-    Enter(Ring),
-    Refuse(u32),
+// Why an argument list is refused, number 10: "1 place outside 8..L-1; 2 count above 4; 3 list passes L; .. 4 length, 5 direction,
+// 6 not permitted".
+#[derive(Clone, Copy, Debug, PartialEq, Eq)]
+pub enum Unfit {
+    Place,
+    Count,
+    ListEnd,
+    Length,
+    Direction,
+    NotPermitted,
 }
 
-// "Call": what a crossing request gives; a return uses the fault and the instruction alone.
-#[derive(Clone, Copy)]
+// "Numbers given back": what is refused. Its number and reason are `number_of` and `reason_of` (specs/Answer.antt).
+#[derive(Clone, Copy, Debug, PartialEq, Eq)]
+pub enum Refused {
+    StoreLength,
+    SegmentFile,
+    Target(Barred),
+    ProcessRecord,
+    FaultOrInstruction,
+    Frame,
+    RunningSegment,
+    SavedLevel,
+    CallsOpen,
+    ArgumentList(Unfit),
+    TargetStack,
+    NewFrame,
+    NothingToReturn,
+    StartRing,
+    StackBelow,
+    OutsideStack,
+}
+
+// "Call": what a crossing request gives; a return uses the fault and the instruction alone. Both stay numbers, since any request is
+// taken (`gatekeeper::cross`), and number 5 says which are in order.
+#[derive(Clone, Copy, Debug, PartialEq, Eq)]
 pub struct Request {
     pub fault: u32,
     pub instruction: u32,
@@ -91,11 +148,11 @@ pub struct Request {
     pub offset: u32,
 }
 
-// The argument list that a call hands over: the reason of number 10 (0 where there is none), the count, the words that an
-// outward call copies, and the arguments, zero past the count.
+// The argument list that a call hands over: whether it may be, the count, the words that an outward call copies, and the arguments,
+// zero past the count. All are read whatever the first says (`handed_of`), since 3 to 9 come before it.
 #[derive(Clone, Copy)]
 pub struct Handed {
-    pub reason: u32,
+    pub fit: Result<(), Unfit>,
     pub count: u32,
     pub words: u64,
     pub arguments: [Argument; 4],
@@ -111,22 +168,16 @@ pub struct Seen {
     pub segment: u32,
     pub offset: u32,
     pub runs: bool,
-    pub decision: Decision,
+    pub decision: Result<Ring, Barred>,
     pub handed: Handed,
     pub used: u32,
     pub fresh: u32,
     pub base: bool,
 }
 
-// "Numbers given back": accepted, or refused with a number and a reason.
-#[derive(Clone, Copy)]
-pub enum Verdict {
-    Accepted,
-    Refused { number: u32, reason: u32 },
-}
-
-// What an entry gives back: number, reason, segment, offset, frame, argument place.
-#[derive(Clone, Copy)]
+// What an entry gives back: number, reason, segment, offset, frame, argument place. Here the refusal becomes document 01's numbers,
+// and places become zeros: the first demand says so of each refusal.
+#[derive(Clone, Copy, Debug, PartialEq, Eq)]
 pub struct Answer {
     pub number: u32,
     pub reason: u32,
@@ -134,6 +185,22 @@ pub struct Answer {
     pub offset: u32,
     pub frame: u32,
     pub place: u32,
+}
+
+impl Answer {
+    // An accepted answer: number 0, reason 0, and the places.
+    pub fn places(segment: u32, offset: u32, frame: u32, place: u32) -> Self
+        ensures { result ≡ places segment offset frame place }
+    {
+        Answer {
+            number: 0,
+            reason: 0,
+            segment,
+            offset,
+            frame,
+            place,
+        }
+    }
 }
 
 // The record after a step, with the answer.
@@ -147,9 +214,21 @@ pub struct Outcome {
 pub fn larger(level: Level, ring: Ring) -> Level
     ensures { result ≡ larger_of level ring }
 {
-    if level.0 < ring.0 {
-        Level(ring.0)
-    } else {
-        level
-    }
+    level.max(Level(ring.0))
+}
+
+// "all lengths": the words of four arguments.
+pub fn all_lengths(arguments: &[Argument; 4]) -> u64
+    ensures value { result ≡ words_in arguments.now }
+    ensures result_bound { result < 2 ^ 34 }
+{
+    arguments.iter().map(|a| u64::from(a.length)).sum()
+}
+
+// One refusal of a list in the document's order, where the test says so: each is followed by `?`.
+#[tactic(auto, unfolding(crate::specs::Tests::refuse_if))]
+pub fn refuse_if<E: Copy>(when: bool, refusal: E) -> Result<(), E>
+    ensures { result ≡ refuse_if when refusal }
+{
+    if when { Err(refusal) } else { Ok(()) }
 }
