@@ -1,13 +1,14 @@
-use Rattle.std.proofs.Common.{arith}
-use Rattle.rules.proofs.Record.{chain_turn, chain_done}
+use Rattle.std.proofs.Common.{◌∙◌, sym}
+use Rattle.record.proofs.Walks.{chain_step, chain_end}
 use Rattle.record.proofs.chain_sound.Goals as goal
 
-pub loop-i-preserved : goal.loop-i-preserved
-loop-i-preserved c = record {
-  within = omega arith;
-  gathered =
-      chain_turn _ _ _ c.args.entries _ _ c.loop-i.ok _ _ c.loop-i-test.true c.open_sound-ok.ensures c.loop-i.invariant.gathered;
-}
+pub returns-then-not-open_sound : goal.returns-then-not-open_sound
+returns-then-not-open_sound c =
+    rw (chain_step _ _ _ _ _ _ _ c.in-Some.ensures.steps, ← c.open_sound.ensures, c.if-not-open_sound.true) at c.loop-e.invariant
+
+pub loop-e-preserved : goal.loop-e-preserved
+loop-e-preserved c =
+    rw (chain_step _ _ _ _ _ _ _ c.in-Some.ensures.steps, ← c.open_sound.ensures, c.if-not-open_sound.false) at c.loop-e.invariant
 
 pub returns : goal.returns
-returns c = chain_done _ _ _ _ _ _ _ _ c.loop-i-test.false c.loop-i.invariant.gathered
+returns c = sym (chain_end _ _ _ _ _ c.in-None.ensures.steps.0) ∙ c.loop-e.invariant

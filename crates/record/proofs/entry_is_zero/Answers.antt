@@ -1,0 +1,13 @@
+use Rattle.std.proofs.Common.{◌≡◌, ◌∙◌, arith, refl}
+use Rattle.std.proofs.lemmas.Grind.{common_steps}
+use mathlib.Core.Bool.{and_assoc}
+use Rattle.rules.specs.Record.{zero_entry, entry_is_zero}
+use Rattle.record.proofs.Walks.{four_zero}
+use Rattle.record.proofs.entry_is_zero.Goals as goal
+
+pub returns : goal.returns
+unfolding entry_is_zero
+returns c =
+    let z : c.default.result ≡ zero_entry = grind (arith, common_steps) in
+    let h = rw z at c.eq.ensures in
+    h ∙ rw (four_zero c.args.e.arguments (grind arith)) (simp and_assoc refl)
