@@ -2,241 +2,154 @@
 // Everything here is total: the list is read wherever it is said to lie, and the reasons say whether it may lie there.
 #![tactic(auto)]
 
-ghost use Rattle.std.specs.Prelude.{◌≡◌, ◌<◌, ◌^◌};
-ghost use Rattle.rules.specs.Tests.{pick, refuse_if, first};
-ghost use Rattle.rules.specs.Arguments.{group_at, group_or, arguments_at, in_stack, in_segment, in_own, is_permitted, argument_reason, earlier, list_reasons, words_in, handed_of};
-ghost use Rattle.arguments.specs.Members.{members_reason};
+ghost use Rattle.std.specs.Prelude.{◌≡◌, Ok};
+ghost use Rattle.rules.specs.Tests.{pick};
+ghost use Rattle.rules.specs.Arguments.{group_at, group_or, arguments_at, in_stack, in_segment, in_own, is_permitted, argument_reason, handed_of};
+ghost use Rattle.arguments.specs.Members.{list_reason};
 
-use rules::{Argument, Handed, Lookup, Ring};
-use words::is_placed;
+use rules::{Argument, Handed, Ring, Unfit, all_lengths, refuse_if};
+use words::{Stack, is_placed};
 
 // ---- The list as it stands in the caller's stack
 
 // Group j: "(segment, offset, length, direction)". With j a byte no sum can wrap.
 #[tactic(auto, unfolding(rules::specs::Arguments::group_at))]
-fn group_at(s: &[u32], len: u32, caller: Ring, place: u32, j: u8) -> Argument
-    ensures { result ≡ group_at s.now len caller.0 place j }
+fn group_at(stack: Stack, s: &[u32], place: u32, j: u8) -> Argument
+    ensures { result ≡ group_at s.now stack.len stack.ring.0 place j }
 {
-    let at = 4 * (j as u32);
+    let at = 4 * u32::from(j);
     Argument {
-        segment: words::load_past(s, len, caller, place, 1 + at),
-        offset: words::load_past(s, len, caller, place, 2 + at),
-        length: words::load_past(s, len, caller, place, 3 + at),
-        direction: words::load_past(s, len, caller, place, 4 + at),
+        segment: stack.load_past(s, place, 1 + at),
+        offset: stack.load_past(s, place, 2 + at),
+        length: stack.load_past(s, place, 3 + at),
+        direction: stack.load_past(s, place, 4 + at),
     }
 }
 
 // Group j of a list of n, and zeros past the count.
-fn group_or(s: &[u32], len: u32, caller: Ring, place: u32, n: u32, j: u8) -> Argument
-    ensures { result ≡ group_or s.now len caller.0 place n j }
+fn group_or(stack: Stack, s: &[u32], place: u32, n: u32, j: u8) -> Argument
+    ensures { result ≡ group_or s.now stack.len stack.ring.0 place n j }
 {
-    if (j as u32) < n {
-        return group_at(s, len, caller, place, j);
-    }
-    Argument {
-        segment: 0,
-        offset: 0,
-        length: 0,
-        direction: 0,
+    if u32::from(j) < n {
+        group_at(stack, s, place, j)
+    } else {
+        Argument::default()
     }
 }
 
 // The four arguments, each group read once.
-fn arguments_at(s: &[u32], len: u32, caller: Ring, place: u32, n: u32) -> [Argument; 4]
-    ensures { result ≡ arguments_at s.now len caller.0 place n }
+fn arguments_at(stack: Stack, s: &[u32], place: u32, n: u32) -> [Argument; 4]
+    ensures { result ≡ arguments_at s.now stack.len stack.ring.0 place n }
 {
-    [
-        group_or(s, len, caller, place, n, 0),
-        group_or(s, len, caller, place, n, 1),
-        group_or(s, len, caller, place, n, 2),
-        group_or(s, len, caller, place, n, 3),
-    ]
+    [0, 1, 2, 3].map(|j| group_or(stack, s, place, n, j))
 }
 
-// ---- Where an argument may lie
+// ---- Who hands the list over
 
-// "in a made stack k ≥ caller's ring, at offset ≥ 8 and ending within L"
-#[tactic(auto, unfolding(rules::specs::Arguments::in_stack))]
-fn in_stack(len: u32, made: u64, caller: Ring, a: Argument) -> bool
-    ensures { result ≡ in_stack len made caller a }
-{
-    (caller.0 <= a.segment)
-        & made::is_made(made, Ring(a.segment))
-        & is_placed(len, a.offset, a.length)
+// A call from a stack's ring, as far as the tests of its arguments ask: the segment file, the stacks made, and its way.
+#[derive(Clone, Copy)]
+pub struct Caller<'a> {
+    pub file: &'a [u8],
+    pub stack: Stack,
+    pub made: u64,
+    pub outward: bool,
 }
 
-// "in a listed segment with caller's ring ≤ r2, read mode for 1 and 3, write mode for 2 and 3, ending at or below 262144"
-#[tactic(auto, unfolding(rules::specs::Arguments::in_segment))]
-fn in_segment(file: &[u8], caller: Ring, a: Argument) -> bool
-    ensures { result ≡ in_segment file.now caller a }
-{
-    let Lookup::Listed(t) = segments::look_up(file, a.segment) else {
-        return false;
-    };
-    (caller.0 <= t.r2.0)
-        & ((a.direction == 2) | (t.mode % 2 == 1))
-        & ((a.direction == 1) | (t.mode / 2 % 2 == 1))
-        & (a.offset as u64 + a.length as u64 <= 262144)
-}
-
-// "only in the caller's own stack, from offset 8, ending within L"
-#[tactic(auto, unfolding(rules::specs::Arguments::in_own))]
-fn in_own(len: u32, caller: Ring, a: Argument) -> bool
-    ensures { result ≡ in_own len caller a }
-{
-    (a.segment == caller.0) & is_placed(len, a.offset, a.length)
-}
-
-// The segment file is searched only where no stack holds the argument.
-#[tactic(auto, unfolding(rules::specs::Arguments::is_permitted))]
-fn is_permitted(file: &[u8], len: u32, made: u64, caller: Ring, outward: bool, a: Argument) -> bool
-    ensures { result ≡ is_permitted file.now len made caller outward a }
-{
-    if outward {
-        return in_own(len, caller, a);
+impl Caller<'_> {
+    // "in a made stack k ≥ caller's ring, at offset ≥ 8 and ending within L"
+    #[tactic(auto, unfolding(rules::specs::Arguments::in_stack))]
+    fn in_stack(self, a: Argument) -> bool
+        ensures { result ≡ in_stack self.entry.stack.len self.entry.made self.entry.stack.ring a }
+    {
+        (self.stack.ring <= Ring(a.segment))
+            & made::is_made(self.made, Ring(a.segment))
+            & is_placed(self.stack.len, a.offset, a.length)
     }
-    if in_stack(len, made, caller, a) {
-        return true;
+
+    // "in a listed segment with caller's ring ≤ r2, read mode for 1 and 3, write mode for 2 and 3, ending at or below 262144"
+    #[tactic(auto, unfolding(rules::specs::Arguments::in_segment))]
+    fn in_segment(self, a: Argument) -> bool
+        ensures { result ≡ in_segment self.entry.file.now self.entry.stack.ring a }
+    {
+        let Some(t) = segments::look_up(self.file, a.segment) else {
+            return false;
+        };
+        (self.stack.ring <= t.r2)
+            & ((a.direction == 2) | t.reads())
+            & ((a.direction == 1) | t.writes())
+            & (u64::from(a.offset) + u64::from(a.length) <= 262144)
     }
-    in_segment(file, caller, a)
-}
 
-// ---- The reasons, 0 where there is none
-
-// One reason, or what the rest gives.
-#[tactic(auto, unfolding(rules::specs::Tests::refuse_if))]
-fn refuse_if(fails: bool, reason: u32, rest: u32) -> u32
-    ensures { result ≡ refuse_if fails reason rest }
-{
-    if fails { reason } else { rest }
-}
-
-// "4 length, 5 direction, 6 not permitted"
-#[tactic(auto, unfolding(rules::specs::Arguments::argument_reason))]
-fn argument_reason(
-    file: &[u8],
-    len: u32,
-    made: u64,
-    caller: Ring,
-    outward: bool,
-    a: Argument,
-) -> u32
-    ensures { result ≡ argument_reason file.now len made caller outward a }
-{
-    let long = !((1 <= a.length) & (a.length <= 16));
-    let strange = !((1 <= a.direction) & (a.direction <= 3));
-    let barred = !is_permitted(file, len, made, caller, outward, a);
-    refuse_if(long, 4, refuse_if(strange, 5, refuse_if(barred, 6, 0)))
-}
-
-// An argument past the count has no reason, and nothing is looked up for it.
-fn member_reason(
-    file: &[u8],
-    len: u32,
-    made: u64,
-    caller: Ring,
-    outward: bool,
-    used: bool,
-    a: Argument,
-) -> u32
-    ensures { result ≡ pick used (argument_reason file.now len made caller outward a) 0 }
-{
-    if used {
-        return argument_reason(file, len, made, caller, outward, a);
+    // "only in the caller's own stack, from offset 8, ending within L"
+    #[tactic(auto, unfolding(rules::specs::Arguments::in_own))]
+    fn in_own(self, a: Argument) -> bool
+        ensures { result ≡ in_own self.entry.stack.len self.entry.stack.ring a }
+    {
+        (Ring(a.segment) == self.stack.ring) & is_placed(self.stack.len, a.offset, a.length)
     }
-    0
-}
 
-// The first of two reasons that is one.
-fn earlier(a: u32, b: u32) -> u32
-    ensures { result ≡ earlier a b }
-{
-    if a == 0 { b } else { a }
-}
-
-// "argument by argument"
-#[tactic(auto, unfolding(crate::specs::Members::members_reason))]
-fn members_reason(
-    file: &[u8],
-    len: u32,
-    made: u64,
-    caller: Ring,
-    outward: bool,
-    n: u32,
-    list: [Argument; 4],
-) -> u32
-    ensures { result ≡ members_reason file.now len made caller outward n list }
-{
-    let r0 = member_reason(file, len, made, caller, outward, 0 < n, list[0]);
-    let r1 = member_reason(file, len, made, caller, outward, 1 < n, list[1]);
-    let r2 = member_reason(file, len, made, caller, outward, 2 < n, list[2]);
-    let r3 = member_reason(file, len, made, caller, outward, 3 < n, list[3]);
-    earlier(earlier(earlier(r0, r1), r2), r3)
-}
-
-// "1 place outside 8..L-1; 2 count above 4; 3 list passes L", and then what the members give.
-fn list_reason(len: u32, place: u32, n: u32, members: u32) -> u32
-    ensures { result ≡ first (list_reasons len place n) members }
-{
-    let outside = !is_placed(len, place, 1);
-    let many = 4 < n;
-    let passes = (len as u64) < place as u64 + (1 + 4 * (n as u64));
-    refuse_if(
-        outside,
-        1,
-        refuse_if(many, 2, refuse_if(passes, 3, members)),
-    )
-}
-
-// ---- The words that an outward call copies
-
-// A length with room to add others.
-fn length_of(a: Argument) -> u64
-    ensures { (result ≡ a.length) × (result < 2 ^ 32) }
-{
-    a.length as u64
-}
-
-fn words_in(list: [Argument; 4]) -> u64
-    ensures { result ≡ words_in list }
-{
-    length_of(list[0]) + (length_of(list[1]) + (length_of(list[2]) + length_of(list[3])))
-}
-
-// An inward call copies none.
-fn words_copied(outward: bool, list: [Argument; 4]) -> u64
-    ensures { result ≡ pick outward (words_in list) 0 }
-{
-    if outward {
-        return words_in(list);
+    // The segment file is searched only where no stack holds the argument.
+    #[tactic(auto, unfolding(rules::specs::Arguments::is_permitted))]
+    fn is_permitted(self, a: Argument) -> bool
+        ensures { result ≡ is_permitted self.entry.file.now self.entry.stack.len self.entry.made self.entry.stack.ring self.entry.outward a }
+    {
+        if self.outward {
+            self.in_own(a)
+        } else {
+            self.in_stack(a) || self.in_segment(a)
+        }
     }
-    0
-}
 
-// ---- The whole
+    // "4 length, 5 direction, 6 not permitted"
+    #[tactic(auto, unfolding(rules::specs::Arguments::argument_reason))]
+    fn test_argument(self, a: Argument) -> Result<(), Unfit>
+        ensures { result ≡ argument_reason self.entry.file.now self.entry.stack.len self.entry.made self.entry.stack.ring self.entry.outward a }
+    {
+        refuse_if(!((1 <= a.length) & (a.length <= 16)), Unfit::Length)?;
+        refuse_if(!((1 <= a.direction) & (a.direction <= 3)), Unfit::Direction)?;
+        refuse_if(!self.is_permitted(a), Unfit::NotPermitted)
+    }
 
-// The list at a place, as a call from the caller's ring hands it over.
-#[tactic(auto, unfolding(rules::specs::Arguments::handed_of, rules::specs::Arguments::list_reason, crate::specs::Members::members_reason))]
-pub fn check_list(
-    file: &[u8],
-    s: &[u32],
-    len: u32,
-    made: u64,
-    caller: Ring,
-    outward: bool,
-    place: u32,
-) -> Handed
-    ensures { result ≡ handed_of file.now s.now len made caller outward place }
-{
-    let count = words::load(s, len, caller, place);
-    let arguments = arguments_at(s, len, caller, place, count);
-    let members = members_reason(file, len, made, caller, outward, count, arguments);
-    let reason = list_reason(len, place, count, members);
-    let words = words_copied(outward, arguments);
-    Handed {
-        reason,
-        count,
-        words,
-        arguments,
+    // An argument past the count is not looked at.
+    fn test_member(self, used: bool, a: Argument) -> Result<(), Unfit>
+        ensures { result ≡ pick used (argument_reason self.entry.file.now self.entry.stack.len self.entry.made self.entry.stack.ring self.entry.outward a) (Ok tt) }
+    {
+        if used { self.test_argument(a) } else { Ok(()) }
+    }
+
+    // "1 place outside 8..L-1; 2 count above 4; 3 list passes L; then argument by argument"
+    #[tactic(auto, unfolding(crate::specs::Members::list_reason))]
+    fn test_list(self, place: u32, n: u32, list: [Argument; 4]) -> Result<(), Unfit>
+        ensures { result ≡ list_reason self.entry.file.now self.entry.stack.len self.entry.made self.entry.stack.ring self.entry.outward place n list }
+    {
+        let len = self.stack.len;
+        refuse_if(!is_placed(len, place, 1), Unfit::Place)?;
+        refuse_if(4 < n, Unfit::Count)?;
+        let passes = u64::from(len) < u64::from(place) + (1 + 4 * u64::from(n));
+        refuse_if(passes, Unfit::ListEnd)?;
+        // Four calls, as the definition has them: over `list.iter().take(n)` and `list.get(..n)` the goals of the `?` in a `for` did not close.
+        self.test_member(0 < n, list[0])?;
+        self.test_member(1 < n, list[1])?;
+        self.test_member(2 < n, list[2])?;
+        self.test_member(3 < n, list[3])
+    }
+
+    // The list at a place, as a call from the caller's ring hands it over; an inward call copies none of its words.
+    #[tactic(auto, unfolding(rules::specs::Arguments::handed_of, rules::specs::Arguments::list_reason, crate::specs::Members::list_reason))]
+    pub fn check_list(self, s: &[u32], place: u32) -> Handed
+        ensures { result ≡ handed_of self.entry.file.now s.now self.entry.stack.len self.entry.made self.entry.stack.ring self.entry.outward place }
+    {
+        let count = self.stack.load(s, place);
+        let arguments = arguments_at(self.stack, s, place, count);
+        Handed {
+            fit: self.test_list(place, count, arguments),
+            count,
+            words: if self.outward {
+                all_lengths(&arguments)
+            } else {
+                0
+            },
+            arguments,
+        }
     }
 }

@@ -1,6 +1,6 @@
 -- From the verdict of a call to what its builder asks for and to what the entry gives back. Assumes nothing.
 use mathlib.Core.Path.{◌≡◌, refl, ap, ◌∙◌}
-use mathlib.Core.Bool.{Bool, false}
+use mathlib.Core.Bool.{Bool}
 use mathlib.Core.List.{List}
 use Prim.Native.Nat.{ℕ}
 use native.Mathlib.Omega.{arith}
@@ -11,15 +11,15 @@ use Rattle.rules.specs.declared.Request.{Request}
 use Rattle.rules.specs.declared.Seen.{Seen}
 use Rattle.rules.specs.declared.Answer.{Answer}
 use Rattle.rules.specs.declared.Outcome.{Outcome}
-use Rattle.rules.specs.declared.Verdict.{Verdict}
-use Rattle.rules.specs.declared.Verdict.TheVariants.{Accepted, Refused}
-use Rattle.rules.specs.Memory.{apply, stack_length}
+use Rattle.std.specs.Prelude.{Ok, Err}
+use Rattle.rules.specs.declared.Refused.{Refused}
+use Rattle.rules.specs.Memory.{spot, word, apply, stack_length}
 use Rattle.rules.specs.Segments.{file_sound}
 use Rattle.rules.specs.Record.{process_sound, added}
 use Rattle.rules.specs.Arguments.{handed_of}
-use Rattle.rules.specs.Answer.{places, outcome_by, memory_by}
-use Rattle.rules.specs.Call.{goes_outward, entered, handed, seen, judged, call_verdict, call_stores, call_entry, call_next, call_answer}
-use Rattle.rules.proofs.Called.{called, copied_words}
+use Rattle.rules.specs.Answer.{Verdict, places, outcome_by, memory_by}
+use Rattle.rules.specs.Call.{goes_outward, entered, decision, handed, seen, judged, call_verdict, call_stores, call_entry, call_next, call_answer}
+use Rattle.rules.proofs.Called.{called, words_taken, words-few}
 use Rattle.rules.proofs.Refusals.{kept}
 use Rattle.calls.specs.Ready.{Ready}
 
@@ -37,35 +37,33 @@ module _ (f m : List ℕ) (p : Process) (q : Request) where
   unfolding call_verdict
   verdict_is v listed sound w e l s j = let n : v.len ≡ stack_length m = ap (λ (x : Seen). x.len) e ∙ length_seen in rw (← e, ← l, ← n) (rw s at j)
 
-  -- no words are copied inward
-  no_words : goes_outward p.ring saw.decision ≡ false → saw.handed.words ≡ 0
+  pub ready : call_verdict 63 f m p q ≡ Ok tt → Ready p.ring p.calls saw
   unfolding seen handed handed_of
-  no_words e = rw e
-
-  pub ready : call_verdict 63 f m p q ≡ Accepted → Ready p.ring p.calls saw
-  unfolding seen
   ready e =
       let c = called 63 f m p q e in
       let j = c.tests in
+      let n = word m (spot (stack_length m) p.ring.0 q.place) in
+      let way = goes_outward p.ring (decision f m p.ring p.made q) in
+      let all = words_taken m (stack_length m) p.ring.0 q.place n c.list.count in
       record {
         enters = j.enters;
         low = c.below;
         room = j.room;
         fits = omega (arith, j.fits, c.long.2);
         few = c.list.count;
-        out = copied_words 63 f m p q c;
-        inward = no_words;
+        short = rw all (words-few f m (stack_length m) p.made p.ring way q.place n c.list);
+        copied = rw all;
       }
 
   -- refused: the record and the store as they were
-  pub refused_is : {w : Verdict} {n reason : ℕ} (r : Outcome) → w ≡ call_verdict 63 f m p q → w ≡ Refused n reason → r ≡ outcome_by w p p (places 0 0 0 0)
+  pub refused_is : {w : Verdict} {x : Refused} (r : Outcome) → w ≡ call_verdict 63 f m p q → w ≡ Err x → r ≡ outcome_by w p p (places 0 0 0 0)
       → (r ≡ outcome_by (call_verdict 63 f m p q) p (call_next p q saw) (call_answer q saw))
       × (m ≡ memory_by (call_verdict 63 f m p q) m (apply (stack_length m) (call_stores m p.ring p.made p.calls p.serial q saw) m))
   refused_is r s k o = kept r p _ _ m _ s k o
 
   -- accepted: the record with the entry added, the places, and the stores
   pub accepted_is : (v : Seen) (w : Verdict) (e : Entry) (to : Ring) (after : Process) (given : Answer) (t : List ℕ)
-      → w ≡ Accepted → w ≡ call_verdict 63 f m p q → v ≡ saw
+      → w ≡ Ok tt → w ≡ call_verdict 63 f m p q → v ≡ saw
       → e ≡ call_entry p.ring p.serial q v → to ≡ entered v.decision → after ≡ added p e to → given ≡ call_answer q v
       → t ≡ apply v.len (call_stores m p.ring p.made p.calls p.serial q v) m
       → (◌≡◌ {A = Outcome} (record { process = after; answer = given }) (outcome_by (call_verdict 63 f m p q) p (call_next p q saw) (call_answer q saw)))

@@ -1,270 +1,236 @@
 // A call: judged, and on acceptance its frame, list, copies, base words and entry are built: document 01, "Call".
 #![tactic(auto)]
 
-ghost use Rattle.std.specs.Prelude.{◌≡◌, true, false, [], ◌∷◌, ◌++◌, ◌+◌, ◌*◌, ◌<◌, ◌≤◌, ltb, take, replicate};
+ghost use Rattle.std.specs.Prelude.{◌≡◌, true, false, [], ◌∷◌, ◌++◌, ◌+◌, ◌*◌, ◌<◌, ◌≤◌, ltb, take, length};
 ghost use Rattle.rules.specs.Tests.{pick};
-ghost use Rattle.rules.specs.Memory.{puts, apply, words, spot, stack_length};
+ghost use Rattle.rules.specs.Memory.{puts, apply, stack_length};
 ghost use Rattle.rules.specs.Made.{is_made, next_serial};
-ghost use Rattle.rules.specs.Record.{zero_argument};
 ghost use Rattle.rules.specs.Arguments.{words_in, copies_of, pointing};
 ghost use Rattle.rules.specs.Answer.{outcome_by, memory_by};
 ghost use Rattle.calls.specs.Ready.{Ready};
-ghost use Rattle.rules.specs.Call.{making, frame_stores, base_stores, seen, level_of, end_of, call_verdict, call_stores, call_entry, call_next, call_answer};
+ghost use Rattle.rules.specs.Call.{making, frame_stores, base_stores, seen, end_of, copies_at, arguments, call_verdict, call_stores, call_entry, call_next, call_answer};
 
-use rules::{
-    Answer, Argument, Decision, Entry, Handed, Level, Outcome, Process, Request, Ring, Seen,
-    Verdict,
-};
+use rules::{Answer, Argument, Entry, Level, Outcome, Process, Request, Ring, Seen};
+use words::Stack;
 
 // ---- What goes into the new stack, gathered before anything is stored
 
-// The first n words of b are put into a from element `at` on.
-fn put_into(a: [u32; 64], at: usize, b: [u32; 64], n: usize) -> [u32; 64]
-    requires { at + n ≤ 64 }
-    ensures { take (at + n) result ≡ take at a ++ take n b }
+// "the arguments themselves follow the list in order": the words of some arguments. They are read into fixed room, as there is no heap and
+// nothing is stored before all is read.
+#[tactic(auto, using(rules::proofs::Arguments::next_fits))]
+fn gather_copies(s: &[u32], old: Stack, arguments: &[Argument]) -> [u32; 64]
+    requires { words_in arguments.now ≤ 64 }
+    ensures { take (words_in arguments.now) result ≡ copies_of s.now old.len old.ring.0 arguments.now }
 {
-    let mut c = a;
-    let mut i: usize = 0;
-    while i < n {
-        c[at + i] = b[i];
-        i += 1;
+    let mut copies = [0u32; 64];
+    let mut at = 0;
+    for g in arguments {
+        let n = g.length as usize;
+        let words = old.gather(s, g.offset, g.length);
+        copies[at..at + n].copy_from_slice(&words[..n]);
+        at += n;
     }
-    c
-}
-
-// "the arguments themselves follow the list in order": the words of the first n arguments.
-fn gather_copies(s: &[u32], len: u32, ring: Ring, arguments: [Argument; 4], n: u32) -> [u32; 64]
-    requires { (n ≤ 4) × (words_in (take n arguments) ≤ 64) }
-    ensures { take (words_in (take n arguments)) result ≡ copies_of s.now len ring.0 (take n arguments) }
-{
-    let mut a = [0u32; 64];
-    let mut at: usize = 0;
-    let mut i: u32 = 0;
-    while i < n {
-        let g = arguments[i as usize];
-        let b = words::gather(s, len, ring, g.offset, g.length);
-        let c = put_into(a, at, b, g.length as usize);
-        a = c;
-        at += g.length as usize;
-        i += 1;
-    }
-    a
-}
-
-// ---- The stores, in the document's order
-
-// "the target stack is made if it isn't"
-fn make_if(s: &mut [u32], len: u32, made: u64, to: Ring)
-    ensures { s.new ≡ apply len (making len made to.0) s.old }
-{
-    if made::is_made(made, to) {
-        return;
-    }
-    words::make_stack(s, len, to);
-}
-
-// Words 0-1 of the old stack, the caller's frame words, then 16-17, 18-19 and 28-29.
-fn build_frame(
-    s: &mut [u32],
-    len: u32,
-    old: Ring,
-    frame: u32,
-    to: Ring,
-    fresh: u32,
-    used: u32,
-    end: u32,
-    caller: [u32; 64],
-)
-    requires { (to.0 ≤ 63) × (fresh ≤ 1024) }
-    ensures { s.new ≡ apply len (frame_stores (take 32 caller) old.0 frame to.0 fresh used end) s.old }
-{
-    words::store_pointer(s, len, old, 0, old.0, frame);
-    words::scatter(s, len, to, fresh, caller, 32);
-    words::store_pointer(s, len, to, fresh + 16, 65536 + to.0, used);
-    words::store_pointer(s, len, to, fresh + 18, to.0, end);
-    words::store_pointer(s, len, to, fresh + 28, old.0, frame);
+    copies
 }
 
 // "groups point at the copies (segment the new ring), length and direction kept"
-fn point_list(
-    s: &mut [u32],
-    len: u32,
-    to: Ring,
-    list: u32,
-    copies: u32,
-    arguments: [Argument; 4],
-    n: u32,
-)
-    requires { (n ≤ 4) × (list ≤ 2048) × (copies ≤ 2048) × (words_in (take n arguments) ≤ 64) }
-    ensures { s.new ≡ apply len (puts to.0 list (pointing to.0 copies (take n arguments))) s.old }
+#[tactic(auto, using(rules::proofs::Arguments::next_fits))]
+fn point_list(s: &mut [u32], new: Stack, list: u32, copies: u32, arguments: &[Argument])
+    requires { (length arguments.now ≤ 4) × (list ≤ 2048) × (copies ≤ 2048) × (words_in arguments.now ≤ 64) }
+    ensures { s.new ≡ apply new.len (puts new.ring.0 list (pointing new.ring.0 copies arguments.now)) s.old }
 {
+    let mut here = list;
     let mut at = copies;
-    let mut i: u32 = 0;
-    while i < n {
-        let g = arguments[i as usize];
-        let here = list + 4 * i;
-        words::store_pointer(s, len, to, here, to.0, at);
-        words::store_pointer(s, len, to, here + 2, g.length, g.direction);
+    for g in arguments {
+        new.store_pointer(s, here, new.ring.0, at);
+        new.store_pointer(s, here + 2, g.length, g.direction);
+        here += 4;
         at += g.length;
-        i += 1;
+    }
+}
+
+// ---- An accepted call
+
+// The stack that it leaves and the frame there, the stack that it enters, and what was seen. Acceptance gives the facts.
+#[derive(Clone, Copy)]
+struct Entering {
+    left: Stack,
+    frame: u32,
+    entered: Stack,
+    seen: Seen,
+    ghost same: { left.len ≡ entered.len },
+    ghost low: { entered.ring.0 ≤ 63 },
+    ghost fits: { end_of seen ≤ 1024 },
+    ghost few: { seen.handed.count ≤ 4 },
+    ghost short: { words_in (arguments seen) ≤ 64 },
+    ghost copied: { seen.handed.words ≡ pick (ltb left.ring.0 entered.ring.0) (words_in (arguments seen)) 0 },
+}
+
+impl Entering {
+    // Whether it goes outward.
+    fn is_outward(&self) -> bool
+        ensures { result ≡ ltb self.now.left.ring.0 self.now.entered.ring.0 }
+    {
+        self.left.ring < self.entered.ring
+    }
+
+    // "end of all copied"
+    fn end(&self) -> u32
+        ensures { result ≡ end_of self.now.seen }
+    {
+        let v = &self.seen;
+        v.fresh + (33 + 4 * v.handed.count) + (v.handed.words as u32)
+    }
+
+    // What an outward call copies, in fixed room as above; an inward one copies nothing.
+    fn copies(&self, s: &[u32]) -> [u32; 64]
+        ensures { take self.now.seen.handed.words result ≡ pick (ltb self.now.left.ring.0 self.now.entered.ring.0) (copies_of s.now self.now.left.len self.now.left.ring.0 (arguments self.now.seen)) [] }
+    {
+        let v = self.seen;
+        if self.is_outward() {
+            gather_copies(s, self.left, &v.handed.arguments[..v.handed.count as usize])
+        } else {
+            [0u32; 64]
+        }
+    }
+
+    // ---- Its stores, in the document's order
+
+    // "the target stack is made if it isn't"
+    fn make_if(&self, s: &mut [u32], made: u64)
+        ensures { s.new ≡ apply self.now.entered.len (making self.now.entered.len made self.now.entered.ring.0) s.old }
+    {
+        if !made::is_made(made, self.entered.ring) {
+            self.entered.make(s);
+        }
+    }
+
+    // Words 0-1 of the old stack, the caller's frame words, then 16-17, 18-19 and 28-29.
+    fn build_frame(&self, s: &mut [u32], caller: &[u32])
+        ensures { s.new ≡ apply self.now.entered.len (frame_stores caller.now self.now.left.ring.0 self.now.frame self.now.entered.ring.0 self.now.seen.fresh self.now.seen.used (end_of self.now.seen)) s.old }
+    {
+        let (left, to, fresh) = (self.left, self.entered, self.seen.fresh);
+        left.store_pointer(s, 0, left.ring.0, self.frame);
+        to.scatter(s, fresh, caller);
+        to.store_pointer(s, fresh + 16, 65536 + to.ring.0, self.seen.used);
+        to.store_pointer(s, fresh + 18, to.ring.0, self.end());
+        to.store_pointer(s, fresh + 28, left.ring.0, self.frame);
+    }
+
+    // The list at new frame + 32: "Inward, groups are unchanged. Outward, .. groups point at the copies".
+    fn build_list(&self, s: &mut [u32], list: &[u32])
+        ensures { s.new ≡ apply self.now.entered.len (puts self.now.entered.ring.0 (self.now.seen.fresh + 32) (pick (ltb self.now.left.ring.0 self.now.entered.ring.0) (self.now.seen.handed.count ∷ pointing self.now.entered.ring.0 (copies_at self.now.seen) (arguments self.now.seen)) list.now)) s.old }
+    {
+        let v = self.seen;
+        let n = v.handed.count;
+        if self.is_outward() {
+            let arguments = &v.handed.arguments[..n as usize];
+            self.entered.store_word(s, v.fresh + 32, n);
+            point_list(
+                s,
+                self.entered,
+                v.fresh + 33,
+                v.fresh + (33 + 4 * n),
+                arguments,
+            );
+        } else {
+            self.entered.scatter(s, v.fresh + 32, list);
+        }
+    }
+
+    // All stores but the base words, what they copy being gathered already.
+    fn enter(&self, s: &mut [u32], made: u64, caller: &[u32], list: &[u32], copied: &[u32])
+        ensures { s.new ≡ apply self.now.entered.len (making self.now.entered.len made self.now.entered.ring.0 ++ frame_stores caller.now self.now.left.ring.0 self.now.frame self.now.entered.ring.0 self.now.seen.fresh self.now.seen.used (end_of self.now.seen) ++ puts self.now.entered.ring.0 (self.now.seen.fresh + 32) (pick (ltb self.now.left.ring.0 self.now.entered.ring.0) (self.now.seen.handed.count ∷ pointing self.now.entered.ring.0 (copies_at self.now.seen) (arguments self.now.seen)) list.now) ++ puts self.now.entered.ring.0 (copies_at self.now.seen) copied.now) s.old }
+    {
+        self.make_if(s, made);
+        self.build_frame(s, caller);
+        self.build_list(s, list);
+        let copies = self.seen.fresh + (33 + 4 * self.seen.handed.count);
+        self.entered.scatter(s, copies, copied);
     }
 }
 
 // The base words of the new stack: 2, 3 and 4.
-fn build_base(s: &mut [u32], len: u32, to: Ring, calls: u32, level: Level, serial: u32)
-    ensures { s.new ≡ apply len (base_stores to.0 calls level serial) s.old }
+fn build_base(s: &mut [u32], new: Stack, calls: u32, level: Level, serial: u32)
+    ensures { s.new ≡ apply new.len (base_stores new.ring.0 calls level serial) s.old }
 {
-    words::store_pointer(s, len, to, 2, calls, level.0);
-    words::store_word(s, len, to, 4, serial);
-}
-
-// The list at new frame + 32: "Inward, groups are unchanged. Outward, .. groups point at the copies".
-fn build_list(
-    s: &mut [u32],
-    len: u32,
-    outward: bool,
-    to: Ring,
-    fresh: u32,
-    handed: Handed,
-    list: [u32; 64],
-)
-    requires { (fresh ≤ 1024) × (handed.count ≤ 4) × (outward ≡ true → words_in (take handed.count handed.arguments) ≤ 64) }
-    ensures { s.new ≡ apply len (puts to.0 (fresh + 32) (pick outward (handed.count ∷ pointing to.0 (fresh + (33 + 4 * handed.count)) (take handed.count handed.arguments)) (take (1 + 4 * handed.count) list))) s.old }
-{
-    let n = handed.count;
-    if outward {
-        let arguments = handed.arguments;
-        words::store_word(s, len, to, fresh + 32, n);
-        point_list(s, len, to, fresh + 33, fresh + (33 + 4 * n), arguments, n);
-        return;
-    }
-    words::scatter(s, len, to, fresh + 32, list, 1 + 4 * n);
-}
-
-// "end of all copied"
-fn end_of(v: Seen) -> u32
-    requires { end_of v ≤ 1024 }
-    ensures { result ≡ end_of v }
-{
-    v.fresh + (33 + 4 * v.handed.count) + (v.handed.words as u32)
-}
-
-// The stores of a call into a ring, what they copy being gathered already.
-fn enter(
-    s: &mut [u32],
-    ring: Ring,
-    made: u64,
-    frame: u32,
-    to: Ring,
-    v: Seen,
-    caller: [u32; 64],
-    list: [u32; 64],
-    copied: [u32; 64],
-)
-    requires { (to.0 ≤ 63) × (end_of v ≤ 1024) × (v.handed.count ≤ 4) × (ltb ring.0 to.0 ≡ true → words_in (take v.handed.count v.handed.arguments) ≤ 64) }
-    ensures { s.new ≡ apply v.len (making v.len made to.0 ++ frame_stores (take 32 caller) ring.0 frame to.0 v.fresh v.used (end_of v) ++ puts to.0 (v.fresh + 32) (pick (ltb ring.0 to.0) (v.handed.count ∷ pointing to.0 (v.fresh + (33 + 4 * v.handed.count)) (take v.handed.count v.handed.arguments)) (take (1 + 4 * v.handed.count) list)) ++ puts to.0 (v.fresh + (33 + 4 * v.handed.count)) (take v.handed.words copied)) s.old }
-{
-    let handed = v.handed;
-    let outward = ring.0 < to.0;
-    let end = end_of(v);
-    make_if(s, v.len, made, to);
-    build_frame(s, v.len, ring, frame, to, v.fresh, v.used, end, caller);
-    build_list(s, v.len, outward, to, v.fresh, handed, list);
-    let copies = v.fresh + (33 + 4 * handed.count);
-    words::scatter(s, v.len, to, copies, copied, handed.words as u32);
-}
-
-// What an outward call copies; an inward one copies nothing.
-fn copies_if(s: &[u32], len: u32, outward: bool, ring: Ring, handed: Handed) -> [u32; 64]
-    requires { (handed.count ≤ 4) × (outward ≡ true → (words_in (take handed.count handed.arguments) ≡ handed.words) × (handed.words ≤ 64)) × (outward ≡ false → handed.words ≡ 0) }
-    ensures { take handed.words result ≡ pick outward (copies_of s.now len ring.0 (take handed.count handed.arguments)) [] }
-{
-    if outward {
-        let arguments = handed.arguments;
-        return gather_copies(s, len, ring, arguments, handed.count);
-    }
-    [0u32; 64]
+    new.store_pointer(s, 2, calls, level.0);
+    new.store_word(s, 4, serial);
 }
 
 // Everything that an accepted call stores. The decision is taken apart here: only a ring that is entered is built for.
-fn build(s: &mut [u32], ring: Ring, made: u64, calls: u32, serial: u32, q: Request, v: Seen)
-    requires { Ready ring calls v }
-    ensures { s.new ≡ apply v.len (call_stores s.old ring made calls serial q v) s.old }
+fn build(s: &mut [u32], p: &Process, q: Request, v: Seen)
+    requires { Ready p.now.ring p.now.calls v }
+    ensures { s.new ≡ apply v.len (call_stores s.old p.now.ring p.now.made p.now.calls p.now.serial q v) s.old }
 {
-    let d = v.decision;
-    let Decision::Enter(to) = d else {
+    let Ok(to) = v.decision else {
         return;
     };
-    let handed = v.handed;
-    let caller = words::gather(s, v.len, ring, q.frame, 32);
-    let list = words::gather(s, v.len, ring, q.place, 1 + 4 * handed.count);
-    let copied = copies_if(s, v.len, ring.0 < to.0, ring, handed);
-    enter(s, ring, made, q.frame, to, v, caller, list, copied);
-    let level = rules::larger(rules::larger(v.saved, ring), to);
-    build_base(s, v.len, to, calls + 1, level, made::next_serial(serial));
+    let call = Entering {
+        left: Stack {
+            len: v.len,
+            ring: p.ring,
+        },
+        frame: q.frame,
+        entered: Stack {
+            len: v.len,
+            ring: to,
+        },
+        seen: v,
+    };
+    let size = 1 + 4 * v.handed.count;
+    let caller = call.left.gather(s, q.frame, 32);
+    let list = call.left.gather(s, q.place, size);
+    let copied = call.copies(s);
+    let caller = &caller[..32];
+    let list = &list[..size as usize];
+    let copied = &copied[..v.handed.words as usize];
+    call.enter(s, p.made, caller, list, copied);
+    let level = rules::larger(rules::larger(v.saved, p.ring), to);
+    build_base(
+        s,
+        call.entered,
+        p.calls + 1,
+        level,
+        made::next_serial(p.serial),
+    );
 }
 
 // ---- The record and the answer
 
-// "an inward entry records no arguments"
-fn kept_count(outward: bool, n: u32) -> u32
-    ensures { result ≡ pick outward n 0 }
+// "an entry is added; an inward entry records no arguments"
+#[tactic(auto, unfolding(rules::specs::Call::call_entry))]
+fn entry_of(p: &Process, q: Request, v: Seen) -> Entry
+    ensures { result ≡ call_entry p.now.ring p.now.serial q v }
 {
-    if outward { n } else { 0 }
-}
-
-fn kept_arguments(outward: bool, handed: Handed) -> [Argument; 4]
-    ensures { result ≡ pick outward handed.arguments (replicate 4 zero_argument) }
-{
-    if outward {
-        return handed.arguments;
-    }
-    let a = Argument {
-        segment: 0,
-        offset: 0,
-        length: 0,
-        direction: 0,
-    };
-    [a; 4]
-}
-
-// "an entry is added"
-fn entry_of(ring: Ring, serial: u32, q: Request, v: Seen) -> Entry
-    ensures { result ≡ call_entry ring serial q v }
-{
-    let d = v.decision;
-    let to = judging::entered_ring(d);
+    let outward = p.ring < judging::entered_ring(v.decision);
     let handed = v.handed;
-    let outward = ring.0 < to.0;
-    let arguments = kept_arguments(outward, handed);
     Entry {
-        old: ring,
+        old: p.ring,
         frame: q.frame,
-        level: rules::larger(v.saved, ring),
+        level: rules::larger(v.saved, p.ring),
         segment: v.segment,
         offset: v.offset,
         place: q.place,
         prior: v.used,
         fresh: v.fresh,
-        count: kept_count(outward, handed.count),
-        serial: made::next_serial(serial),
-        arguments,
+        count: if outward { handed.count } else { 0 },
+        serial: made::next_serial(p.serial),
+        arguments: if outward {
+            handed.arguments
+        } else {
+            [Argument::default(); 4]
+        },
     }
 }
 
 // "Returned: target segment and offset, new frame, new frame + 32."
+#[tactic(auto, unfolding(rules::specs::Call::call_answer))]
 fn answer_of(q: Request, v: Seen) -> Answer
     requires { v.fresh ≤ 1024 }
     ensures { result ≡ call_answer q v }
 {
-    Answer {
-        number: 0,
-        reason: 0,
-        segment: q.target,
-        offset: q.offset,
-        frame: v.fresh,
-        place: v.fresh + 32,
-    }
+    Answer::places(q.target, q.offset, v.fresh, v.fresh + 32)
 }
 
 // ---- A call
@@ -279,13 +245,12 @@ pub fn call(file: &[u8], s: &mut [u32], p: Process, q: Request) -> Outcome
     let listed = segments::file_sound(file, top);
     let sound = record::process_sound(top, v.len, p);
     let verdict = judging::judge_call(top, listed, sound, p.calls, q, v);
-    let Verdict::Accepted = verdict else {
+    let Ok(()) = verdict else {
         return judging::unchanged(p, verdict);
     };
-    build(s, p.ring, p.made, p.calls, p.serial, q, v);
-    let e = entry_of(p.ring, p.serial, q, v);
-    let d = v.decision;
-    let process = record::add_entry(p, e, judging::entered_ring(d));
+    build(s, &p, q, v);
+    let e = entry_of(&p, q, v);
+    let process = record::add_entry(p, e, judging::entered_ring(v.decision));
     let answer = answer_of(q, v);
     Outcome { process, answer }
 }

@@ -5,7 +5,6 @@ use mathlib.Core.List.{List}
 use Prim.Native.Nat.{ℕ, ◌+◌}
 use lib.Dec.{ltb}
 use Rattle.rules.specs.declared.Ring.{Ring}
-use Rattle.rules.specs.declared.Decision.{Decision}
 use Rattle.rules.specs.declared.Request.{Request}
 use Rattle.rules.specs.declared.Handed.{Handed}
 use Rattle.rules.specs.declared.Seen.{Seen}
@@ -13,7 +12,7 @@ use Rattle.rules.specs.Tests.{pick}
 use Rattle.rules.specs.Memory.{spot, word, stack_length}
 use Rattle.rules.specs.Made.{is_made}
 use Rattle.rules.specs.Segments.{lookup_of}
-use Rattle.rules.specs.Bracket.{target_of}
+use Rattle.rules.specs.Bracket.{Decision, target_of}
 use Rattle.rules.specs.Arguments.{handed_of}
 use Rattle.rules.specs.Call.{runs_in, entered, made_or, base_sound, decision, handed, used, fresh, seen}
 

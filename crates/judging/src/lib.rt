@@ -2,20 +2,19 @@
 // "Numbers given back".
 #![tactic(auto)]
 
-ghost use Rattle.std.specs.Prelude.{◌≡◌, not, ◌+◌, ltb};
-ghost use Rattle.rules.specs.declared.Verdict.TheVariants.{Refused};
-ghost use Rattle.rules.specs.Tests.{pick, refuse_if};
+ghost use Rattle.std.specs.Prelude.{◌≡◌, ltb};
 ghost use Rattle.rules.specs.Segments.{lookup_of};
-ghost use Rattle.rules.specs.Bracket.{number_of, reason_of};
-ghost use Rattle.rules.specs.Call.{runs_in, entered, refuses, base_sound, seen, asked, end_of, judged};
+ghost use Rattle.rules.specs.Tests.{pick};
+ghost use Rattle.rules.specs.Call.{runs_in, entered, base_sound, seen, asked, end_of, judged};
 ghost use Rattle.rules.specs.Answer.{places, outcome_by};
 ghost use Rattle.rules.specs.Return.{fault_back, judged_back};
 ghost use Rattle.rules.specs.Step.{judged_start, judged_reach};
 
+use arguments::Caller;
 use rules::{
-    Answer, Decision, Entry, Level, Lookup, Outcome, Process, Request, Ring, Seen, Verdict,
+    Answer, Barred, Entry, Level, Outcome, Process, Refused, Request, Ring, Seen, refuse_if,
 };
-use words::is_placed;
+use words::{Stack, is_placed};
 
 // ---- What a call reads
 
@@ -23,50 +22,21 @@ use words::is_placed;
 fn running(file: &[u8], ring: Ring, x: u32) -> bool
     ensures { result ≡ runs_in ring (lookup_of file.now x) }
 {
-    let Lookup::Listed(t) = segments::look_up(file, x) else {
+    let Some(t) = segments::look_up(file, x) else {
         return false;
     };
-    brackets::executes(t) & brackets::stays(ring, t)
+    t.executes() & brackets::stays(ring, t)
 }
 
 // The ring of a decision that enters one, and ring 0 for a refusal, which 3 then gives.
-pub fn entered_ring(d: Decision) -> Ring
+pub fn entered_ring(d: Result<Ring, Barred>) -> Ring
     ensures { result ≡ entered d }
 {
-    match d {
-        Decision::Enter(to) => to,
-        Decision::Refuse(_) => Ring(0),
-    }
+    d.unwrap_or_default()
 }
 
-fn is_refusal(d: Decision) -> bool
-    ensures { result ≡ refuses d }
-{
-    match d {
-        Decision::Enter(_) => false,
-        Decision::Refuse(_) => true,
-    }
-}
-
-fn number_of(d: Decision) -> u32
-    ensures { result ≡ number_of d }
-{
-    match d {
-        Decision::Enter(_) => 0,
-        Decision::Refuse(_) => 3,
-    }
-}
-
-fn reason_of(d: Decision) -> u32
-    ensures { result ≡ reason_of d }
-{
-    match d {
-        Decision::Enter(_) => 0,
-        Decision::Refuse(reason) => reason,
-    }
-}
-
-// A word of the target stack, or what it reads as where the stack is only now made.
+// A word of the target stack, or what it reads as where the stack is only now made. A function, since with an `if` in its place no proof
+// of `survey` was found.
 fn made_or(made: bool, w: u32, fresh: u32) -> u32
     ensures { result ≡ pick made w fresh }
 {
@@ -74,13 +44,14 @@ fn made_or(made: bool, w: u32, fresh: u32) -> u32
 }
 
 // The words of a made target stack that 11 looks at.
-fn base_sound(s: &[u32], len: u32, to: Ring, used: u32, fresh: u32) -> bool
-    ensures { result ≡ base_sound s.now len to.0 used fresh }
+#[tactic(auto, unfolding(rules::specs::Call::base_sound))]
+fn base_sound(s: &[u32], to: Stack, used: u32, fresh: u32) -> bool
+    ensures { result ≡ base_sound s.now to.len to.ring.0 used fresh }
 {
-    (words::load(s, len, to, 0) == to.0)
-        & is_placed(len, used, 32)
-        & (words::load_past(s, len, to, used, 18) == to.0)
-        & (used as u64 + 32 <= fresh as u64)
+    (Ring(to.load(s, 0)) == to.ring)
+        & is_placed(to.len, used, 32)
+        & (Ring(to.load_past(s, used, 18)) == to.ring)
+        & (u64::from(used) + 32 <= u64::from(fresh))
 }
 
 // Everything that a call from a ring reads.
@@ -88,44 +59,37 @@ pub fn survey(file: &[u8], s: &[u32], ring: Ring, made: u64, q: Request) -> Seen
     ensures { result ≡ seen file.now s.now ring made q }
 {
     let len = words::stack_length(s);
-    let saved = Level(words::load(s, len, ring, 3));
-    let segment = words::load_past(s, len, ring, q.frame, 20);
-    let offset = words::load_past(s, len, ring, q.frame, 21);
-    let runs = running(file, ring, q.running);
+    let stack = Stack { len, ring };
     let decision = brackets::target(file, ring, q.fault, q.target, q.offset);
-    let to = entered_ring(decision);
-    let handed = arguments::check_list(file, s, len, made, ring, ring.0 < to.0, q.place);
-    let is = made::is_made(made, to);
-    let used = made_or(is, words::load(s, len, to, 1), 8);
-    let fresh = made_or(is, words::load_past(s, len, to, used, 19), 40);
-    let base = !is | base_sound(s, len, to, used, fresh);
+    let to = Stack {
+        len,
+        ring: entered_ring(decision),
+    };
+    let outward = ring < to.ring;
+    let caller = Caller {
+        file,
+        stack,
+        made,
+        outward,
+    };
+    let is = made::is_made(made, to.ring);
+    let used = made_or(is, to.load(s, 1), 8);
+    let fresh = made_or(is, to.load_past(s, used, 19), 40);
     Seen {
         len,
-        saved,
-        segment,
-        offset,
-        runs,
+        saved: Level(stack.load(s, 3)),
+        segment: stack.load_past(s, q.frame, 20),
+        offset: stack.load_past(s, q.frame, 21),
+        runs: running(file, ring, q.running),
         decision,
-        handed,
+        handed: caller.check_list(s, q.place),
         used,
         fresh,
-        base,
+        base: !is | base_sound(s, to, used, fresh),
     }
 }
 
-// ---- The numbers, in the document's order
-
-// One number, or what the rest decides.
-#[tactic(auto, unfolding(rules::specs::Tests::refuse_if))]
-fn refuse_if(fails: bool, number: u32, reason: u32, rest: Verdict) -> Verdict
-    ensures { result ≡ refuse_if fails (Refused number reason) rest }
-{
-    if fails {
-        Verdict::Refused { number, reason }
-    } else {
-        rest
-    }
-}
+// ---- The numbers, in the document's order. Each judge is given what its own tests ask, and no two are given the same.
 
 // Number 5's test.
 fn is_asked(q: Request) -> bool
@@ -138,42 +102,39 @@ fn is_asked(q: Request) -> bool
 fn passes(v: Seen) -> bool
     ensures { result ≡ ltb v.len (end_of v) }
 {
-    let len = v.len as u64;
+    let len = u64::from(v.len);
     if len < v.handed.words {
         return true;
     }
-    len < v.fresh as u64 + (33 + 4 * (v.handed.count as u64)) + v.handed.words
+    len < u64::from(v.fresh) + (33 + 4 * u64::from(v.handed.count)) + v.handed.words
 }
 
 // A call: 1 2 4 5 6 7 8 9 3 10 11 12.
 #[tactic(auto, unfolding(rules::specs::Call::judged))]
-pub fn judge_call(top: Ring, file: bool, sound: bool, calls: u32, q: Request, v: Seen) -> Verdict
+pub fn judge_call(
+    top: Ring,
+    file: bool,
+    sound: bool,
+    calls: u32,
+    q: Request,
+    v: Seen,
+) -> Result<(), Refused>
     ensures { result ≡ judged top.0 file sound calls q v }
 {
-    let d = v.decision;
-    let reason = v.handed.reason;
-    let fits = refuse_if(
-        !v.base,
-        11,
-        0,
-        refuse_if(passes(v), 12, 0, Verdict::Accepted),
-    );
-    let aimed = refuse_if(
-        is_refusal(d),
-        number_of(d),
-        reason_of(d),
-        refuse_if(reason != 0, 10, reason, fits),
-    );
-    let level = refuse_if(top.0 < v.saved.0, 8, 0, refuse_if(32 <= calls, 9, 0, aimed));
     let back = v.runs & (v.segment == q.running) & (v.offset <= 262143);
-    let frame = refuse_if(
-        !is_placed(v.len, q.frame, 32),
-        6,
-        0,
-        refuse_if(!back, 7, 0, level),
-    );
-    let record = refuse_if(!sound, 4, 0, refuse_if(!is_asked(q), 5, 0, frame));
-    refuse_if(v.len == 0, 1, 0, refuse_if(!file, 2, 0, record))
+    refuse_if(v.len == 0, Refused::StoreLength)?;
+    refuse_if(!file, Refused::SegmentFile)?;
+    refuse_if(!sound, Refused::ProcessRecord)?;
+    refuse_if(!is_asked(q), Refused::FaultOrInstruction)?;
+    refuse_if(!is_placed(v.len, q.frame, 32), Refused::Frame)?;
+    refuse_if(!back, Refused::RunningSegment)?;
+    // A level is compared with a ring here: only `larger` makes the one of the other.
+    refuse_if(top.0 < v.saved.0, Refused::SavedLevel)?;
+    refuse_if(32 <= calls, Refused::CallsOpen)?;
+    v.decision?;
+    v.handed.fit?;
+    refuse_if(!v.base, Refused::TargetStack)?;
+    refuse_if(passes(v), Refused::NewFrame)
 }
 
 // A return: 1 2 4 5 13.
@@ -186,33 +147,31 @@ pub fn judge_return(
     ring: Ring,
     q: Request,
     e: Entry,
-) -> Verdict
+) -> Result<(), Refused>
     ensures { result ≡ judged_back len file sound calls ring q e }
 {
+    refuse_if(len == 0, Refused::StoreLength)?;
+    refuse_if(!file, Refused::SegmentFile)?;
+    refuse_if(!sound, Refused::ProcessRecord)?;
+    refuse_if(!is_asked(q), Refused::FaultOrInstruction)?;
     let other = q.fault != fault_back(ring, e.old);
-    let open = refuse_if((calls == 0) | other, 13, 0, Verdict::Accepted);
-    let record = refuse_if(!sound, 4, 0, refuse_if(!is_asked(q), 5, 0, open));
-    refuse_if(len == 0, 1, 0, refuse_if(!file, 2, 0, record))
+    refuse_if((calls == 0) | other, Refused::NothingToReturn)
 }
 
-// The fault that a return to a ring needs.
+// "fault 1 when old ring < ring": a number, as the request's fault that it is compared with.
 fn fault_back(ring: Ring, old: Ring) -> u32
     ensures { result ≡ fault_back ring old }
 {
-    if old.0 < ring.0 { 1 } else { 2 }
+    if old < ring { 1 } else { 2 }
 }
 
 // A start: 1 14.
 #[tactic(auto, unfolding(rules::specs::Step::judged_start))]
-pub fn judge_start(top: Ring, len: u32, ring: Ring) -> Verdict
+pub fn judge_start(top: Ring, len: u32, ring: Ring) -> Result<(), Refused>
     ensures { result ≡ judged_start top.0 len ring }
 {
-    refuse_if(
-        len == 0,
-        1,
-        0,
-        refuse_if(top.0 < ring.0, 14, 0, Verdict::Accepted),
-    )
+    refuse_if(len == 0, Refused::StoreLength)?;
+    refuse_if(top < ring, Refused::StartRing)
 }
 
 // A write or a look: 1 4 16 15.
@@ -225,38 +184,25 @@ pub fn judge_reach(
     stack: Ring,
     at: u32,
     room: u32,
-) -> Verdict
+) -> Result<(), Refused>
     ensures { result ≡ judged_reach top.0 len sound ring stack at room }
 {
-    let outside = (top.0 < stack.0) | ((len as u64) < at as u64 + room as u64);
-    let below = refuse_if(stack.0 < ring.0, 15, 0, Verdict::Accepted);
-    let record = refuse_if(!sound, 4, 0, refuse_if(outside, 16, 0, below));
-    refuse_if(len == 0, 1, 0, record)
+    refuse_if(len == 0, Refused::StoreLength)?;
+    refuse_if(!sound, Refused::ProcessRecord)?;
+    let outside = (top < stack) | (u64::from(len) < u64::from(at) + u64::from(room));
+    refuse_if(outside, Refused::OutsideStack)?;
+    refuse_if(stack < ring, Refused::StackBelow)
 }
 
-// ---- A refusal
-
-// A number with its reason, and zeros as places.
-fn told(p: Process, number: u32, reason: u32) -> Outcome
-    ensures { result ≡ outcome_by (Refused number reason) p p (places 0 0 0 0) }
-{
-    let answer = Answer {
-        number,
-        reason,
-        segment: 0,
-        offset: 0,
-        frame: 0,
-        place: 0,
-    };
-    Outcome { process: p, answer }
-}
+// ---- What is given back
 
 // "Every refusal changes nothing and gives zeros as places": the record as it was, with a verdict's number and reason.
-pub fn unchanged(p: Process, v: Verdict) -> Outcome
+pub fn unchanged(p: Process, v: Result<(), Refused>) -> Outcome
     ensures { result ≡ outcome_by v p p (places 0 0 0 0) }
 {
-    match v {
-        Verdict::Accepted => told(p, 0, 0),
-        Verdict::Refused { number, reason } => told(p, number, reason),
-    }
+    let answer = match v {
+        Ok(()) => Answer::places(0, 0, 0, 0),
+        Err(refused) => Answer::from(refused),
+    };
+    Outcome { process: p, answer }
 }

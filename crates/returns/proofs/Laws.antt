@@ -4,67 +4,46 @@ use mathlib.Core.Bool.{Bool, true, false}
 use mathlib.Core.List.{List, [], ◌∷◌, ◌++◌, append_assoc, append-nil}
 use Prim.Native.Nat.{ℕ, zero, suc, ◌+◌, ◌*◌, ◌<◌, ◌≤◌}
 use native.Mathlib.Numerals.{add-one}
-use native.Mathlib.Nat.{add_assoc, add-zero, zero-add, le_antisymm}
+use native.Mathlib.Nat.{add_assoc, add-zero, zero-add}
 use native.Mathlib.Omega.{arith}
 use lib.Dec.{leb, ltb, eqb}
 use lib.ListN.{length, take, drop, get_or, length-drop}
-use lib.Seq.{take-suc, length-take-le, get_or-drop}
-use borrow.Author.Tests.{leb-true, eqb-true, le-leb, lt-leb}
+use lib.Seq.{take-suc, get_or-drop}
+use borrow.Author.Tests.{leb-true, eqb-true}
 use Rattle.rules.specs.declared.Argument.{Argument}
 use Rattle.rules.specs.declared.Ring.{Ring}
 use Rattle.rules.specs.declared.Entry.{Entry}
 use Rattle.rules.specs.declared.Process.{Process}
 use Rattle.rules.specs.declared.Request.{Request}
-use Rattle.rules.specs.declared.Verdict.{Verdict}
-use Rattle.rules.specs.declared.Verdict.TheVariants.{Accepted}
+use Rattle.std.specs.Prelude.{Ok}
+use Rattle.rules.specs.Answer.{Verdict}
+use Rattle.rules.specs.Record.{zero_argument, lengths, inward_sound, outward_sound, process_sound, newest}
 use Rattle.rules.specs.Tests.{pick}
 use Rattle.rules.specs.Memory.{spot, word, up_to, words, puts, apply, stack_length}
 use Rattle.rules.specs.Segments.{file_sound}
-use Rattle.rules.specs.Record.{lengths, inward_sound, outward_sound, process_sound, newest}
 use Rattle.rules.specs.Arguments.{words_in}
 use Rattle.rules.specs.Return.{back_stores, judged_back, return_verdict, return_stores}
 use Rattle.rules.proofs.Tests.{and_l, and_r}
-use Rattle.rules.proofs.Memory.{length_told, puts-append, then, length-words, words-get}
+use Rattle.rules.proofs.Memory.{length_told, then, length-words, words-get}
 use Rattle.rules.proofs.Record.{newest_open, Held, held, lent}
 use Rattle.rules.proofs.Verdicts.{JudgedBack, return_facts}
-use Rattle.returns.specs.Back.{back_one, back_from, Short, Ready}
-
--- ---- the loop that stores the words of an array one by one, from a word on
-
-pub word_turn : (L k at from i : ℕ) (a m s t : List ℕ) → from + i < length a → s ≡ apply L (puts k at (take i (drop from a))) m
-    → t ≡ apply L (puts k (at + i) (get_or a (from + i) 0 ∷ [])) s → t ≡ apply L (puts k at (take (i + 1) (drop from a))) m
-word_turn L k at from i a m s t l inv new =
-    let short : i < length (drop from a) = simp length-drop (omega arith) in
-    let few = length-take-le i (drop from a) (omega arith) in
-    rw (add-one, take-suc (drop from a) i 0 short, puts-append, few, get_or-drop) (then L _ _ m s t inv new)
-
--- an argument that only went in: nothing goes back
-pub input : (copies : List ℕ) (old from L : ℕ) (a : Argument) (m : List ℕ) → a.direction < 2 → m ≡ apply L (back_one copies old from a) m
-unfolding back_one apply
-input copies old from L a m h = let test = lt-leb 2 a.direction h in rw test
-
--- one that went out: all its words have gone back
-pub output : (copies : List ℕ) (old from L i : ℕ) (a : Argument) (m s : List ℕ) → 2 ≤ a.direction → i ≤ a.length → a.length ≤ i
-    → s ≡ apply L (puts old a.offset (take i (drop from copies))) m → s ≡ apply L (back_one copies old from a) m
-unfolding back_one
-output copies old from L i a m s h most least inv =
-    let test = le-leb 2 a.direction h in
-    let ended = le_antisymm most least in
-    rw (test, ← ended) inv
+use Rattle.returns.specs.Back.{back_one, back_from, Ready}
 
 -- ---- the loop that goes through the arguments
 
 back_more : (copies : List ℕ) (old from : ℕ) (rest : List Argument) (a : Argument)
-    → back_from copies old from (rest ++ (a ∷ [])) ≡ back_from copies old from rest ++ back_one copies old (from + words_in rest) a
+    → back_from copies old from (rest ++ (a ∷ [])) ≡ back_from copies old from rest ++ back_one (take a.length (drop (from + words_in rest) copies)) old a
 unfolding back_from
 back_more copies old from [] a = rw (append-nil, add-zero)
 back_more copies old from (b ∷ rest) a = rw (back_more copies old (from + b.length) rest a, append_assoc, add_assoc)
 
-module _ (l : List Argument) (i : ℕ) (d : Argument) (h : i < length l) where
-  pub back_turn : (L old from : ℕ) (copies m s t : List ℕ) → from ≡ words_in (take i l) → s ≡ apply L (back_from copies old 0 (take i l)) m
-      → t ≡ apply L (back_one copies old from (get_or l i d)) s → t ≡ apply L (back_from copies old 0 (take (i + 1) l)) m
-  back_turn L old from copies m s t size inv new =
-      rw (add-one, take-suc l i d, back_more, zero-add) (then L _ _ m s t inv (rw size at new))
+-- one argument more is back
+pub back_turn : (l : List Argument) (i L old from room : ℕ) (copies m s t : List ℕ) → i < length l → room ≡ (get_or l i zero_argument).length
+    → from ≡ words_in (take i l) → s ≡ apply L (back_from copies old 0 (take i l)) m
+    → t ≡ apply L (back_one (take room (drop from copies)) old (get_or l i zero_argument)) s
+    → t ≡ apply L (back_from copies old 0 (take (i + 1) l)) m
+back_turn l i L old from room copies m s t h same size inv new =
+    rw (add-one, take-suc l i zero_argument, back_more, zero-add) (then L _ _ m s t inv (rw (same, size) at new))
 
 -- ---- the copies are the words of the left stack
 
@@ -76,7 +55,8 @@ part m p t f (suc n) h =
     let here : get_or (words m p t) (f + n) 0 ≡ word m (p + f + n) = rw add_assoc (words-get m p t (f + n) (omega arith)) in
     rw (take-suc (drop f (words m p t)) n 0 short, get_or-drop, here, part m p t f n (omega arith))
 
-few_words : (n : ℕ) (list : List Argument) → Short n list → words_in (take n list) ≤ 16 * n
+-- each of the first n arguments is at most 16 words long, and so they are few
+few_words : (n : ℕ) (list : List Argument) → ((i : ℕ) → i < n → (get_or list i zero_argument).length ≤ 16) → words_in (take n list) ≤ 16 * n
 few_words zero list h = omega arith
 few_words (suc n) [] h = omega arith
 few_words (suc n) (a ∷ list) h =
@@ -103,7 +83,7 @@ pub all_set : (L : ℕ) (left : Ring) (e : Entry) (m s t u copies : List ℕ) �
 unfolding return_stores
 all_set L left e m s t u copies ready read one two three =
     let list = take e.count e.arguments in
-    let few : 0 + words_in list ≤ 64 = omega (arith, few_words e.count e.arguments ready.short) in
+    let few : 0 + words_in list ≤ 64 = omega (arith, ready.few) in
     let back = same_back m L left.0 e.old.0 (e.fresh + (33 + 4 * e.count)) 0 list few in
     then L _ _ m t u (then L _ _ m s t one two) (rw (read, append-nil, back, add-zero) at three)
 
@@ -116,7 +96,7 @@ unfolding return_verdict
 judges f m p q L listed sound e v e1 e2 e3 e4 e5 = rw (← e1, ← e2, ← e3, ← e4) e5
 
 -- an accepted return strikes an entry of a sound record
-pub ready : (f m : List ℕ) (p : Process) (q : Request) → return_verdict 63 f m p q ≡ Accepted → Ready (newest p)
+pub ready : (f m : List ℕ) (p : Process) (q : Request) → return_verdict 63 f m p q ≡ Ok tt → Ready (newest p)
 unfolding return_verdict inward_sound outward_sound
 ready f m p q accepted = go (ltb p.ring.0 e.old.0) known.way
   where
@@ -138,7 +118,7 @@ ready f m p q accepted = go (ltb p.ring.0 e.old.0) known.way
         record {
           place = omega arith;
           count = few;
-          short = λ i l. let a = lent L e i known.arguments (omega arith) l in (a.most, omega arith);
+          few = omega (arith, few_words e.count e.arguments (λ i l. (lent L e i known.arguments (omega arith) l).most));
         }
 
     go : (b : Bool) → pick b (inward_sound L e) (outward_sound L e) ≡ true → Ready e

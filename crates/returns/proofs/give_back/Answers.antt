@@ -20,11 +20,11 @@ returns-in_default c =
 pub set_back-requires : goal.set_back-requires
 set_back-requires c =
     let judged = (goal.at.set_back-requires c).After-judge_return-v in
-    rw c.newest_entry-e.ensures (ready _ _ _ _ (sym (verdict judged) ∙ c.in-Accepted.is))
+    rw c.newest_entry-e.ensures (ready _ _ _ _ (sym (verdict judged) ∙ c.in-Ok.is))
 
 pub returns : goal.returns
 returns c =
-    let accepted = sym (verdict (goal.at.returns c).After-judge_return-v) ∙ c.in-Accepted.is in
+    let accepted = sym (verdict (goal.at.returns c).After-judge_return-v) ∙ c.in-Ok.is in
     let length = c.stack_length-len.ensures in
     let entry = c.newest_entry-e.ensures in
     record {

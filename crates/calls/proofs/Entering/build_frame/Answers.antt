@@ -1,6 +1,6 @@
 use Rattle.rules.specs.Call.{frame_stores}
 use Rattle.rules.proofs.Memory.{then}
-use Rattle.calls.proofs.build_frame.Goals as goal
+use Rattle.calls.proofs.Entering.build_frame.Goals as goal
 
 pub returns : goal.returns
 unfolding frame_stores
@@ -8,7 +8,7 @@ returns c =
     then _ _ _ _ _ _
     (then _ _ _ _ _ _
     (then _ _ _ _ _ _
-    (then _ _ _ _ _ _ c.store_pointer.ensures c.scatter.ensures)
+    (then _ _ _ _ _ _ (rw c.args.self.now.same at c.store_pointer.ensures) c.scatter.ensures)
     c.store_pointer-2.ensures)
-    c.store_pointer-3.ensures)
+    (rw c.end.ensures at c.store_pointer-3.ensures))
     c.store_pointer-4.ensures
