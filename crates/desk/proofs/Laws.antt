@@ -1,23 +1,20 @@
 -- Digits and written bytes: what one more digit makes, and what is written in two goes. Assumes nothing.
-use mathlib.Core.Path.{◌≡◌, refl, sym, ap, ◌∙◌}
+use mathlib.Core.Path.{◌≡◌, refl}
 use mathlib.Core.Bool.{Bool, true, false}
 use mathlib.Core.List.{List, [], ◌∷◌, ◌++◌}
-use Prim.Native.Nat.{ℕ, zero, suc, ◌+◌, ◌*◌, ◌/◌, ◌%◌, ◌^◌, ◌<◌, ◌≤◌, zero-le, suc-le-suc}
-use native.Mathlib.Nat.{add-zero, add-suc, suc-add, add_assoc, pow-suc}
+use Prim.Native.Nat.{ℕ, zero, suc, min, ◌+◌, ◌*◌, ◌/◌, ◌%◌, ◌^◌, ◌<◌, ◌≤◌, zero-le, suc-le-suc}
+use native.Mathlib.Nat.{add_assoc, min_comm, add-zero, add-suc, suc-add, pow-suc}
 use native.Mathlib.Numerals.{add-one}
 use native.Mathlib.Omega.{arith}
 use lib.Dec.{ltb, leb-suc-zero, leb-suc-suc}
-use lib.ListN.{length, set, get_or, drop, length-append, drop_of_length-le}
-use lib.Seq.{length-sets, drop-cons}
-use borrow.Author.Tests.{lt-ltb, le-ltb}
+use lib.ListN.{length, set, get_or, drop, length-append, drop_of_length-le, take}
+use lib.Seq.{drop-cons}
+use Rattle.std.proofs.lemmas.List.{take_min}
+use borrow.Author.Tests.{lt-ltb}
 use Rattle.rules.specs.Tests.{pick}
 use Rattle.desk.specs.Lines.{digits_in, digits, after, line, written}
 
 -- ---- digits
-
-pub digits_one : (n : ℕ) → n < 10 → digits n ≡ (48 + n % 10) ∷ []
-unfolding digits digits_in
-digits_one n h = rw (lt-ltb n 10 h)
 
 tenth : (n k : ℕ) → n < 10 ^ suc k → n / 10 < 10 ^ k
 tenth n k h = let e : 10 ^ suc k ≡ 10 ^ k * 10 = pow-suc 10 k in omega (arith, e)
@@ -28,9 +25,13 @@ unfolding digits_in
 enough zero n h = let l : n < 10 = omega arith in rw (lt-ltb n 10 l)
 enough (suc k) n h = rw (enough k (n / 10) (tenth n (suc k) h))
 
-pub digits_more : (n : ℕ) → 10 ≤ n → n < 2 ^ 32 → digits n ≡ digits (n / 10) ++ ((48 + n % 10) ∷ [])
+-- the digits that stand before the last one
+abbrev pub before_last : ℕ → List ℕ
+before_last n = pick (ltb n 10) [] (digits (n / 10))
+
+digits_last : (n : ℕ) → n < 2 ^ 32 → digits n ≡ before_last n ++ ((48 + n % 10) ∷ [])
 unfolding digits digits_in
-digits_more n h l = rw (le-ltb n 10 h, ← enough 8 (n / 10) (omega arith))
+digits_last n l = rw (← enough 8 (n / 10) (omega arith))
 
 by_one : (b : Bool) (k : ℕ) (l : List ℕ) → length l ≤ k → length (pick b [] l) + 1 ≤ suc k
 by_one true k l h = omega arith
@@ -52,23 +53,14 @@ unfolding written
 written_then m at [] b = rw add-zero
 written_then m at (v ∷ a) b = rw (written_then (set m at v) (suc at) a b, add-suc, suc-add)
 
-pub length-written : (m : List ℕ) (at : ℕ) (a : List ℕ) → length (written m at a) ≡ length m
-unfolding written
-length-written m at a = length-sets m at a
-
 -- ---- a number is written, from its first digit on
 
-pub one_digit : (m t : List ℕ) (at n d : ℕ) → n < 10 → d ≡ 48 + n % 10 → t ≡ set m at d
-    → (at + 1 ≡ at + length (digits n)) × (t ≡ written m at (digits n))
-unfolding written
-one_digit m t at n d h e w = (rw (digits_one n h), rw (digits_one n h, ← e) w)
-
-pub more_digits : (m s t : List ℕ) (at next n d : ℕ) → 10 ≤ n → n < 2 ^ 32 → next ≡ at + length (digits (n / 10)) → s ≡ written m at (digits (n / 10))
-    → d ≡ 48 + n % 10 → t ≡ set s next d
+pub digit_turn : (m s t : List ℕ) (at next n : ℕ) → n < 2 ^ 32
+    → next ≡ at + length (before_last n) → s ≡ written m at (before_last n) → t ≡ set s next (48 + n % 10)
     → (next + 1 ≡ at + length (digits n)) × (t ≡ written m at (digits n))
 unfolding written
-more_digits m s t at next n d h l e w f p =
-    (rw (digits_more n h l, length-append, e, add_assoc), rw (digits_more n h l, written_then, ← w, ← e, ← f) p)
+digit_turn m s t at next n l e w p =
+    (rw (digits_last n l, length-append, e, add_assoc), rw (digits_last n l, written_then, ← w, ← e) p)
 
 -- ---- a line is written, number by number: what is left to write makes the whole line
 
@@ -97,10 +89,6 @@ unfolding written
 number_turn m s t l i here next v h e w f p =
     (rw (line_turn l i h, length-append, e) (omega arith), rw (line_turn l i h, written_then, ← w, ← e, ← f, p, add-one next))
 
--- writing changes no length
-pub same_room : (s m a b : List ℕ) (here at : ℕ) → written s here a ≡ written m at b → length s ≡ length m
-same_room s m a b here at e = sym (length-written s here a) ∙ ap length e ∙ length-written m at b
-
 -- past the last number nothing is left to write
 pub line_done : (s m l : List ℕ) (i here at : ℕ) → length l ≤ i
     → here + length (line (drop i l)) ≡ at + length (line l)
@@ -114,3 +102,7 @@ pub line-few : (l : List ℕ) → length (line l) ≤ 11 * length l
 unfolding line
 line-few [] = zero-le
 line-few (n ∷ l) = simp length-append (omega (arith, few n, line-few l))
+
+-- the first k of a list, or all where there are fewer
+pub first_of : (l : List ℕ) (k : ℕ) → take (min (length l) k) l ≡ take k l
+first_of l k = rw min_comm (take_min k l)

@@ -1,12 +1,13 @@
 -- Document 01, "The run program": a record of 24 bytes, what it asks, and exactly when it gives 17. Assumes nothing.
-use Rattle.std.specs.Prelude.{Bool, true, ◌||◌, not, List, [], ◌∷◌, ℕ, ◌+◌, ltb, eqb}
+use Rattle.std.specs.Prelude.{Bool, true, ◌||◌, not, List, [], ◌∷◌, ℕ, ◌+◌, ltb, eqb, Result, Ok, Err}
 use Rattle.rules.specs.declared.Ring.{Ring}
 use Rattle.rules.specs.declared.Request.{Request}
 use Rattle.rules.specs.Tests.{pick, conj}
 use Rattle.rules.specs.Segments.{byte_at, word_at}
 use Rattle.desk.specs.declared.Fields.{Fields}
 use Rattle.desk.specs.declared.Asked.{Asked}
-use Rattle.desk.specs.declared.Asked.TheVariants.{Start, Cross, Write, Wrong}
+use Rattle.desk.specs.declared.Asked.TheVariants.{Start, Cross, Write}
+use Rattle.desk.specs.declared.Wrong.{Wrong}
 
 -- "kind (0 start, 1 crossing, 2 write); start ring, fault or stack; instruction; zero; five 4-byte numbers, high byte first": the
 -- record that begins at a byte of the input
@@ -49,15 +50,23 @@ request_of x =
 abbrev pub ring_of : Fields → Ring
 ring_of x = record { 0 = x.whom }
 
+-- a record that is not in order: number 17
+abbrev pub wrong : Wrong
+wrong = record {}
+
+-- what a record asks, or number 17
+abbrev pub Asking : Type 0
+Asking = Result Asked Wrong
+
 -- what a record asks
-unfoldable pub asked_of : Fields → Asked
+unfoldable pub asked_of : Fields → Asking
 asked_of x =
-    pick (is_wrong x) Wrong
-    (pick (eqb x.kind 0) (Start (ring_of x)) (pick (eqb x.kind 1) (Cross (request_of x)) (Write (ring_of x) x.n1 x.n2)))
+    pick (is_wrong x) (Err wrong)
+    (Ok (pick (eqb x.kind 0) (Start (ring_of x)) (pick (eqb x.kind 1) (Cross (request_of x)) (Write (ring_of x) x.n1 x.n2))))
 
 -- the kind that the line shows: "for a 17, kind is 9"
-abbrev pub kind_of : Asked → ℕ
-kind_of (Start r) = 0
-kind_of (Cross q) = 1
-kind_of (Write k at v) = 2
-kind_of Wrong = 9
+abbrev pub kind_of : Asking → ℕ
+kind_of (Ok (Start r)) = 0
+kind_of (Ok (Cross q)) = 1
+kind_of (Ok (Write k at v)) = 2
+kind_of (Err e) = 9

@@ -2,17 +2,18 @@
 // Everything here is total: a byte past the end of the input is 0, and past the end of the lent room nothing is written.
 #![tactic(auto)]
 
-ghost use Rattle.std.specs.Prelude.{◌≡◌, ◌+◌, ◌<◌, ◌^◌, ◌≤◌, ◌%◌, length, set, take};
-ghost use Rattle.rules.specs.Tests.{pick, conj};
-ghost use Rattle.rules.specs.Segments.{byte_at, half_at, word_at};
-ghost use Rattle.desk.specs.Records.{fields_at, start_tests, write_tests, is_wrong, asked_of, kind_of};
+ghost use Rattle.std.specs.Prelude.{◌≡◌, ◌+◌, ◌<◌, ◌^◌, ◌≤◌, length, take};
+ghost use Rattle.desk.specs.Records.{fields_at, asked_of, kind_of};
 ghost use Rattle.desk.specs.Lines.{digits, line, shown, written};
 
+use lent::put;
+use octets::{byte, word};
 use rules::{Outcome, Request, Ring};
 
 // ---- What comes in
 
-// "kind; start ring, fault or stack; instruction; zero; five 4-byte numbers", as numbers.
+// "kind; start ring, fault or stack; instruction; zero; five 4-byte numbers", as numbers: any are read, and number 17 says which are in
+// order.
 #[derive(Clone, Copy)]
 pub struct Fields {
     pub kind: u32,
@@ -26,46 +27,17 @@ pub struct Fields {
     pub n5: u32,
 }
 
-// What a record asks: "0 start, 1 crossing, 2 write", or nothing in order (number 17).
-#[derive(Clone, Copy)]
+// What a record asks: "0 start, 1 crossing, 2 write".
+#[derive(Clone, Copy, Debug, PartialEq, Eq)]
 pub enum Asked {
     Start(Ring),
     Cross(Request),
     Write(Ring, u32, u32),
-    Wrong,
 }
 
-// A byte, 0 past the end.
-fn byte(b: &[u8], k: usize) -> u8
-    ensures { result ≡ byte_at b.now k }
-{
-    if k < b.len() { b[k] } else { 0 }
-}
-
-// Two bytes, high byte first.
-fn pair(b: &[u8], k: usize) -> u16
-    requires { k + 1 < 2 ^ 64 }
-    ensures { result ≡ half_at b.now k }
-{
-    byte(b, k) as u16 * 256 + byte(b, k + 1) as u16
-}
-
-// Four bytes, high byte first.
-fn number(b: &[u8], k: usize) -> u32
-    requires { k + 3 < 2 ^ 64 }
-    ensures { result ≡ word_at b.now k }
-{
-    let high = pair(b, k);
-    let low = pair(b, k + 2);
-    high as u32 * 65536 + low as u32
-}
-
-// A byte as a number.
-fn small(b: &[u8], k: usize) -> u32
-    ensures { result ≡ byte_at b.now k }
-{
-    byte(b, k) as u32
-}
+// A record that is not in order: number 17.
+#[derive(Clone, Copy, Debug, PartialEq, Eq)]
+pub struct Wrong;
 
 // The record that begins at a byte of the input.
 #[tactic(auto, unfolding(crate::specs::Records::fields_at))]
@@ -74,137 +46,89 @@ pub fn read_record(b: &[u8], at: u32) -> Fields
 {
     let k = at as usize;
     Fields {
-        kind: small(b, k),
-        whom: small(b, k + 1),
-        instruction: small(b, k + 2),
-        zero: small(b, k + 3),
-        n1: number(b, k + 4),
-        n2: number(b, k + 8),
-        n3: number(b, k + 12),
-        n4: number(b, k + 16),
-        n5: number(b, k + 20),
+        kind: byte(b, k).into(),
+        whom: byte(b, k + 1).into(),
+        instruction: byte(b, k + 2).into(),
+        zero: byte(b, k + 3).into(),
+        n1: word(b, k + 4),
+        n2: word(b, k + 8),
+        n3: word(b, k + 12),
+        n4: word(b, k + 16),
+        n5: word(b, k + 20),
     }
 }
 
-// One of two truths.
-fn choose(b: bool, x: bool, y: bool) -> bool
-    ensures { result ≡ pick b x y }
-{
-    if b { x } else { y }
-}
+// What a record asks. It is in order where the kind is at most 2, and the zero byte and every field that the kind doesn't use are zero.
+#[tactic(auto, unfolding(crate::specs::Records::asked_of, crate::specs::Records::is_wrong, crate::specs::Records::unused_zero))]
+impl TryFrom<Fields> for Asked {
+    type Error = Wrong;
 
-// A start uses the ring alone.
-fn start_clean(x: Fields) -> bool
-    ensures { result ≡ conj (start_tests x) }
-{
-    (x.instruction == 0) & (x.n1 == 0) & (x.n2 == 0) & (x.n3 == 0) & (x.n4 == 0) & (x.n5 == 0)
-}
+    ghost try_from_gives = { λ x r. r ≡ asked_of x };
 
-// A write uses the stack and two numbers.
-fn write_clean(x: Fields) -> bool
-    ensures { result ≡ conj (write_tests x) }
-{
-    (x.instruction == 0) & (x.n3 == 0) & (x.n4 == 0) & (x.n5 == 0)
-}
-
-// "exactly when the kind is above 2, the zero byte or an unused field isn't zero"
-#[tactic(auto, unfolding(crate::specs::Records::is_wrong, crate::specs::Records::unused_zero))]
-fn is_wrong(x: Fields) -> bool
-    ensures { result ≡ is_wrong x }
-{
-    let write = choose(x.kind == 2, write_clean(x), true);
-    (2 < x.kind) | (x.zero != 0) | !choose(x.kind == 0, start_clean(x), write)
-}
-
-// What a record asks.
-#[tactic(auto, unfolding(crate::specs::Records::asked_of))]
-pub fn decode(x: Fields) -> Asked
-    ensures { result ≡ asked_of x }
-{
-    if is_wrong(x) {
-        return Asked::Wrong;
+    fn try_from(x: Fields) -> Result<Self, Wrong> {
+        let numbers = [x.n1, x.n2, x.n3, x.n4, x.n5];
+        match (x.kind, x.zero, x.instruction, numbers) {
+            (0, 0, 0, [0, 0, 0, 0, 0]) => Ok(Asked::Start(Ring(x.whom))),
+            (1, 0, instruction, [frame, place, running, target, offset]) => {
+                let fault = x.whom;
+                Ok(Asked::Cross(Request {
+                    fault,
+                    instruction,
+                    frame,
+                    place,
+                    running,
+                    target,
+                    offset,
+                }))
+            }
+            (2, 0, 0, [offset, value, 0, 0, 0]) => Ok(Asked::Write(Ring(x.whom), offset, value)),
+            _ => Err(Wrong),
+        }
     }
-    if x.kind == 0 {
-        return Asked::Start(Ring(x.whom));
-    }
-    if x.kind == 1 {
-        return Asked::Cross(Request {
-            fault: x.whom,
-            instruction: x.instruction,
-            frame: x.n1,
-            place: x.n2,
-            running: x.n3,
-            target: x.n4,
-            offset: x.n5,
-        });
-    }
-    Asked::Write(Ring(x.whom), x.n1, x.n2)
 }
 
-// The kind that the line shows: "for a 17, kind is 9".
-pub fn kind_of(a: Asked) -> u32
-    ensures { result ≡ kind_of a }
+// The kind that the line shows: "for a 17, kind is 9". A function, since no `From` may be written of a `Result` into a number.
+pub fn kind_of(asked: Result<Asked, Wrong>) -> u32
+    ensures { result ≡ kind_of asked }
 {
-    match a {
-        Asked::Start(_) => 0,
-        Asked::Cross(_) => 1,
-        Asked::Write(_, _, _) => 2,
-        Asked::Wrong => 9,
+    match asked {
+        Ok(Asked::Start(_)) => 0,
+        Ok(Asked::Cross(_)) => 1,
+        Ok(Asked::Write(_, _, _)) => 2,
+        Err(Wrong) => 9,
     }
 }
 
 // ---- What goes out
 
-// A byte is written at a place of the lent room; past its end, none.
-fn put(out: &mut [u8], i: usize, v: u8)
-    ensures { out.new ≡ set out.old i v }
-{
-    if i < out.len() {
-        out[i] = v;
-    }
-}
-
-// The last digit of a number.
-fn digit(n: u32) -> u8
-    ensures { result ≡ 48 + n % 10 }
-{
-    48 + (n % 10) as u8
-}
-
-// The digits of a number are written from a place on; what is given back is the place after them.
+// The digits of a number are written from a place on; what is given back is the place after them. Digit by digit, since std promises
+// which bytes `write!` gives only where it answers `Ok`, and not that it does. The kit's `itoa` gives them, but its statements would be one
+// thing more that the proofs rest on (docs/TRUST.md).
 fn put_number(out: &mut [u8], at: usize, n: u32) -> usize
     requires { at < 2 ^ 33 }
     ensures value { result ≡ at + length (digits n) }
     ensures out_after { out.new ≡ written out.old at (digits n) }
 {
-    if n < 10 {
-        put(out, at, digit(n));
-        return at + 1;
-    }
-    let next = put_number(out, at, n / 10);
-    put(out, next, digit(n));
+    let next = if n < 10 {
+        at
+    } else {
+        put_number(out, at, n / 10)
+    };
+    put(out, next, b'0' + (n % 10) as u8);
     next + 1
 }
 
-// A blank where another number follows, a newline at the end.
-fn separator(more: bool) -> u8
-    ensures { result ≡ pick more 32 10 }
-{
-    if more { b' ' } else { b'\n' }
-}
-
-// A line of at most 64 numbers.
+// A line of at most 64 numbers: a blank where another number follows, a newline at the end.
 fn put_numbers(out: &mut [u8], at: usize, numbers: &[u32]) -> usize
     requires { (at < 2 ^ 32) × (length numbers.now ≤ 64) }
     ensures value { result ≡ at + length (line numbers.now) }
     ensures out_after { out.new ≡ written out.old at (line numbers.now) }
 {
     let mut here = at;
-    let mut i = 0;
-    while i < numbers.len() {
-        let next = put_number(out, here, numbers[i]);
-        i += 1;
-        put(out, next, separator(i < numbers.len()));
+    for (i, n) in numbers.iter().enumerate() {
+        let next = put_number(out, here, *n);
+        let after = if i + 1 < numbers.len() { b' ' } else { b'\n' };
+        put(out, next, after);
         here = next + 1;
     }
     here
@@ -230,13 +154,12 @@ pub fn numbers_of(kind: u32, made: u32, o: Outcome) -> [u32; 11]
     ]
 }
 
-// A line of numbers, of more than 64 the first 64, is written from a place on; what is given back is the place after it.
+// A line of numbers, of more than 64 the first 64, is written from a place on; what is given back is the place after it. Room and place
+// are two parameters, since this contract and those of the two functions above speak of each.
+#[tactic(auto, using(crate::proofs::Laws::first_of))]
 pub fn put_line(out: &mut [u8], at: u32, numbers: &[u32]) -> usize
     ensures value { result ≡ at + length (line (take 64 numbers.now)) }
     ensures out_after { out.new ≡ written out.old at (line (take 64 numbers.now)) }
 {
-    if numbers.len() <= 64 {
-        return put_numbers(out, at as usize, numbers);
-    }
-    put_numbers(out, at as usize, &numbers[..64])
+    put_numbers(out, at as usize, &numbers[..numbers.len().min(64)])
 }

@@ -1,5 +1,6 @@
-// The gatekeeper's public entries: document 01, "Call", "Return" and "Start, write, look". Each takes the lent store and the process record and is total:
-// every refusal changes nothing and gives zeros as places. What they decide and store lies in the crates below.
+// The gatekeeper's public entries: document 01, "Call", "Return" and "Start, write, look". Each takes the lent store and the process
+// record, as the document has them, and is total: every refusal changes nothing and gives zeros as places. What they decide and store
+// lies in the crates below.
 #![tactic(auto)]
 
 ghost use Rattle.std.specs.Prelude.{◌≡◌, []};
@@ -8,22 +9,21 @@ ghost use Rattle.rules.specs.Look.{IsPart};
 ghost use Rattle.rules.specs.Step.{starts, crosses, writes, looks, start_next, reach_verdict, outcome, memory_after};
 ghost use Rattle.gatekeeper.specs.Entries.{state, look_start, look_length};
 
-use rules::{Answer, Outcome, Process, Request, Ring, Verdict};
+use rules::{Answer, Entry, Outcome, Process, Refused, Request, Ring};
+use words::Stack;
 
-// "the record has this ring and stack and is otherwise zero"
+// "the record has this ring and stack and is otherwise zero". Its five fields, since of a derived default the contract says what each of
+// the 32 entries is, and not that they are `replicate 32 zero_entry`.
 #[tactic(auto, unfolding(rules::specs::Step::start_next))]
 fn start_record(ring: Ring) -> Process
     ensures { result ≡ start_next ring }
 {
-    let e = record::zero_entry();
-    let entries = [e; 32];
-    let made = made::with_made(0, ring);
     Process {
         ring,
-        made,
+        made: made::with_made(0, ring),
         serial: 0,
         calls: 0,
-        entries,
+        entries: [Entry::default(); 32],
     }
 }
 
@@ -34,22 +34,17 @@ pub fn start(s: &mut [u32], p: Process, ring: Ring) -> Outcome
 {
     let len = words::stack_length(s);
     let v = judging::judge_start(Ring(63), len, ring);
-    let Verdict::Accepted = v else {
+    let Ok(()) = v else {
         return judging::unchanged(p, v);
     };
-    words::clear(s);
-    words::make_stack(s, len, ring);
-    words::store_word(s, len, ring, 3, ring.0);
-    let process = start_record(ring);
-    let answer = Answer {
-        number: 0,
-        reason: 0,
-        segment: 0,
-        offset: 0,
-        frame: 8,
-        place: 0,
-    };
-    Outcome { process, answer }
+    let stack = Stack { len, ring };
+    s.fill(0);
+    stack.make(s);
+    stack.store_word(s, 3, ring.0);
+    Outcome {
+        process: start_record(ring),
+        answer: Answer::places(0, 0, 8, 0),
+    }
 }
 
 // A crossing: a return by instruction 1, and anything else is judged as a call.
@@ -65,7 +60,7 @@ pub fn cross(file: &[u8], s: &mut [u32], p: Process, q: Request) -> Outcome
 
 // "Write and look: 1 4 16 15", for some words at an offset of a stack.
 #[tactic(auto, unfolding(rules::specs::Step::reach_verdict))]
-fn reach(s: &[u32], p: Process, stack: Ring, at: u32, room: u32) -> Verdict
+fn reach(s: &[u32], p: Process, stack: Ring, at: u32, room: u32) -> Result<(), Refused>
     ensures { result ≡ reach_verdict 63 [] (state s.now p) stack at room }
 {
     let len = words::stack_length(s);
@@ -80,10 +75,10 @@ pub fn write(s: &mut [u32], p: Process, stack: Ring, at: u32, value: u32) -> Out
 {
     let len = words::stack_length(s);
     let v = reach(s, p, stack, at, 1);
-    let Verdict::Accepted = v else {
+    let Ok(()) = v else {
         return judging::unchanged(p, v);
     };
-    words::store_word(s, len, stack, at, value);
+    Stack { len, ring: stack }.store_word(s, at, value);
     judging::unchanged(p, v)
 }
 
@@ -99,10 +94,11 @@ pub fn look_number(s: &[u32], p: Process, stack: Ring, at: u32) -> Outcome
 pub fn look<'a>(s: &'a [u32], p: Process, stack: Ring, at: u32) -> &'a [u32]
     ensures { IsPart s.entry result (look_start s.now p stack at) (look_length s.now p stack at) }
 {
-    let Verdict::Accepted = reach(s, p, stack, at, 32) else {
+    let Ok(()) = reach(s, p, stack, at, 32) else {
         return &s[0..0];
     };
-    words::part(s, words::stack_length(s), stack, at)
+    let len = words::stack_length(s);
+    Stack { len, ring: stack }.part(s, at)
 }
 
 // "The record also answers how many stacks are made, which is the number of bits set."

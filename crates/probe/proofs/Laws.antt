@@ -1,32 +1,61 @@
--- Digests: of numbers one after the other, and the turns of the loops that mix them in. Assumes nothing.
+-- Digests: of numbers one after the other, and of what is mixed in piece by piece. Fields: what one that is not an argument's leaves.
+-- Assumes nothing.
 use mathlib.Core.Path.{◌≡◌, refl}
+use mathlib.Core.Bool.{false}
 use mathlib.Core.List.{List, [], ◌∷◌, ◌++◌}
-use Prim.Native.Nat.{ℕ, ◌+◌, ◌<◌, ◌≤◌}
-use native.Mathlib.Numerals.{add-one}
-use lib.ListN.{length, get_or, drop, drop_of_length-le}
-use lib.Seq.{drop-cons}
+use Prim.Native.Nat.{ℕ, ◌<◌, ◌≤◌}
+use native.Mathlib.Omega.{arith}
+use lib.Dec.{eqb}
+use lib.ListN.{length, get_or, set}
+use Rattle.std.specs.List.{fold}
+use Rattle.std.proofs.lemmas.Bool.{ne_eqb}
+use Rattle.std.proofs.lemmas.List.{set-get_or}
+use Rattle.rules.specs.declared.Argument.{Argument}
 use Rattle.rules.specs.declared.Entry.{Entry}
-use Rattle.rules.specs.Record.{no_entry}
-use Rattle.probe.specs.Digests.{mixed, digest_on, entry_numbers, entries_numbers}
+use Rattle.rules.specs.Record.{zero_argument}
+use Rattle.probe.specs.Digests.{mixed, digest_on, argument_numbers, ten_numbers, entry_numbers, entries_numbers}
+use Rattle.probe.specs.Fields.{argument_with}
 
-pub digest-then : (d : ℕ) (a b : List ℕ) → digest_on d (a ++ b) ≡ digest_on (digest_on d a) b
+pub digest_then : (d : ℕ) (a b : List ℕ) → digest_on d (a ++ b) ≡ digest_on (digest_on d a) b
 unfolding digest_on
-digest-then d [] b = refl
-digest-then d (x ∷ a) b = digest-then (mixed d x) a b
+digest_then d [] b = refl
+digest_then d (x ∷ a) b = digest_then (mixed d x) a b
 
-pub word_turn : (l : List ℕ) (i d e : ℕ) → i < length l → e ≡ mixed d (get_or l i 0) → digest_on e (drop (i + 1) l) ≡ digest_on d (drop i l)
+-- numbers mixed in one by one
+pub digest_fold : (d : ℕ) (l : List ℕ) → digest_on d l ≡ fold mixed d l
 unfolding digest_on
-word_turn l i d e h p = rw (add-one, drop-cons l i 0, p)
+digest_fold d [] = refl
+digest_fold d (x ∷ l) = digest_fold (mixed d x) l
 
-pub word_done : (l : List ℕ) (i d : ℕ) → length l ≤ i → digest_on d (drop i l) ≡ d
-unfolding digest_on
-word_done l i d h = rw (drop_of_length-le l h)
+-- the arguments of an entry, of which there are four, mixed in one by one after its ten fields
+four : (d : ℕ) (l : List Argument) → length l ≡ 4
+    → digest_on d
+    (argument_numbers (get_or l 0 zero_argument)
+    ++ argument_numbers (get_or l 1 zero_argument)
+    ++ argument_numbers (get_or l 2 zero_argument)
+    ++ argument_numbers (get_or l 3 zero_argument))
+    ≡ fold (λ n a. digest_on n (argument_numbers a)) d l
+four d (a ∷ b ∷ x ∷ y ∷ []) h = simp digest_then
+four d [] h = cc
+four d (a ∷ []) h = absurd (omega arith)
+four d (a ∷ b ∷ []) h = absurd (omega arith)
+four d (a ∷ b ∷ x ∷ []) h = absurd (omega arith)
+four d (a ∷ b ∷ x ∷ y ∷ z ∷ l) h = absurd (omega arith)
 
-pub entry_turn : (l : List Entry) (i d e : ℕ) → i < length l → e ≡ digest_on d (entry_numbers (get_or l i no_entry))
-    → digest_on e (entries_numbers (drop (i + 1) l)) ≡ digest_on d (entries_numbers (drop i l))
-unfolding entries_numbers
-entry_turn l i d e h p = rw (add-one, drop-cons l i no_entry, digest-then, p)
+pub entry_fold : (d : ℕ) (e : Entry) → length e.arguments ≡ 4
+    → digest_on d (entry_numbers e) ≡ fold (λ n a. digest_on n (argument_numbers a)) (digest_on d (ten_numbers e)) e.arguments
+unfolding entry_numbers
+entry_fold d e h = simp digest_then (simp digest_then at (four (digest_on d (ten_numbers e)) e.arguments h))
 
-pub entry_done : (l : List Entry) (i d : ℕ) → length l ≤ i → digest_on d (entries_numbers (drop i l)) ≡ d
+-- entries mixed in one by one
+pub entries_fold : (d : ℕ) (l : List Entry) → digest_on d (entries_numbers l) ≡ fold (λ n e. digest_on n (entry_numbers e)) d l
 unfolding entries_numbers digest_on
-entry_done l i d h = rw (drop_of_length-le l h)
+entries_fold d [] = refl
+entries_fold d (e ∷ l) = rw digest_then (entries_fold (digest_on d (entry_numbers e)) l)
+
+-- a field that is not an argument's leaves the arguments
+pub arguments_kept : (field n k : ℕ) (l : List Argument) → field < 20 → set l k (argument_with field n (get_or l k zero_argument)) ≡ l
+unfolding argument_with
+arguments_kept field n k l h =
+    let other : (m : ℕ) → 20 ≤ m → eqb field m ≡ false = λ m b. ne_eqb field m (λ e. omega arith) in
+    rw (other 20 (omega arith), other 21 (omega arith), other 22 (omega arith), other 23 (omega arith)) (set-get_or l k zero_argument)

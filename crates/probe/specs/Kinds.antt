@@ -1,9 +1,8 @@
 -- docs/TRACE.md: the kinds of the program trace, and when one gives 17. Assumes nothing.
-use Rattle.std.specs.Prelude.{Bool, true, ◌||◌, not, [], ◌∷◌, ℕ, leb, ltb, eqb}
+use Rattle.std.specs.Prelude.{Bool, true, ◌||◌, not, [], ◌∷◌, ℕ, leb, ltb, eqb, Err}
 use Rattle.rules.specs.Tests.{pick, conj}
 use Rattle.desk.specs.declared.Fields.{Fields}
-use Rattle.desk.specs.declared.Asked.TheVariants.{Wrong}
-use Rattle.desk.specs.Records.{ring_of, asked_of, kind_of}
+use Rattle.desk.specs.Records.{ring_of, wrong, asked_of, kind_of}
 use Rattle.probe.specs.Fields.{field_there}
 use Rattle.probe.specs.declared.Told.{Told}
 use Rattle.probe.specs.declared.Told.TheVariants.{Run, Look, Room, Field, Word, Byte, File}
@@ -34,7 +33,7 @@ further x =
 
 -- "0, 1, 2 start, crossing, write, as document 01 lays down for the run program, with its rule for 17"
 unfoldable pub told_of : ℕ → ℕ → Fields → Told
-told_of words bytes x = pick (ltb x.kind 3) (Run (asked_of x)) (pick (is_odd words bytes x) (Run Wrong) (further x))
+told_of words bytes x = pick (ltb x.kind 3) (Run (asked_of x)) (pick (is_odd words bytes x) (Run (Err wrong)) (further x))
 
 -- the kind that the line shows
 abbrev pub kind_shown : Told → ℕ

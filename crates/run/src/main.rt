@@ -2,69 +2,44 @@
 // 128. What a record does and what is written for it is proved in the crates below; here it is read and written, part by part.
 #![tactic(auto)]
 
+ghost use Rattle.std.specs.Prelude.{◌≡◌};
+ghost use Rattle.gatekeeper.specs.Entries.{state};
+ghost use Rattle.run.specs.Parts.{PartRuns};
+
+use intake::Answers;
 use rules::Process;
 use std::io;
-use std::io::{Read, Write};
 
-// The record after a part of the input, and whether there may be more.
-#[derive(Clone, Copy)]
-struct Served {
+// What is lent, and the record after the input so far.
+#[derive(Drop)]
+struct Lent<'a> {
+    file: &'a [u8],
+    store: &'a mut [u32],
     process: Process,
-    more: bool,
 }
 
-// One part of the input: at most 512 records, each answered.
-fn serve_some<R: Eprint, I: Read, O: Write>(
-    rt: &R,
-    from: &mut I,
-    to: &mut O,
-    file: &[u8],
-    s: &mut [u32],
-    p: Process,
-) -> io::Result<Served> {
-    let mut input = [0u8; 12288];
-    let n = intake::fill(rt, from, b"standard input", &mut input).count;
-    let mut out = [0u8; 65536];
-    let done = turns::answer(file, s, p, &input[..n], &mut out);
-    to.write_all(&out[..done.at])?;
-    Ok(Served {
-        process: done.process,
-        more: n == 12288,
-    })
-}
+impl<'a> Answers for Lent<'a> {
+    ghost goes = { λ a part lines b. PartRuns a.file.now (state a.store.now a.process) part lines (state b.store.now b.process)
+        × (b.file.now ≡ a.file.now) };
 
-// A proved loop has to end, and nothing says that the input does: it goes on for as many parts as no run uses up.
-fn serve<R: Eprint, I: Read, O: Write>(
-    rt: &R,
-    from: &mut I,
-    to: &mut O,
-    file: &[u8],
-    s: &mut [u32],
-    p: Process,
-) -> io::Result<()> {
-    let mut process = p;
-    for _ in 0..u64::MAX {
-        let served = serve_some(rt, from, to, file, s, process)?;
-        if !served.more {
-            break;
-        }
-        process = served.process;
+    fn answer(&mut self, input: &[u8], out: &mut [u8; 65536]) -> usize {
+        let done = turns::answer(self.file, self.store, self.process, input, out);
+        self.process = done.process;
+        done.at
     }
-    Ok(())
 }
 
+// A part of the input is at most 512 records.
 fn main(rt: HostRuntime) -> io::Result<()> {
     let mut room = [0u8; 7760];
     let n = intake::segment_file(&rt, &mut room);
     let mut store = [0u32; 8192];
+    let mut lent = Lent {
+        file: &room[..n],
+        store: &mut store,
+        process: turns::zero_record(),
+    };
     let mut from = rt.stdin();
     let mut to = rt.stdout();
-    serve(
-        &rt,
-        &mut from,
-        &mut to,
-        &room[..n],
-        &mut store,
-        turns::zero_record(),
-    )
+    intake::serve::<12288, _, _, _, _>(&rt, &mut from, &mut to, &mut lent)
 }

@@ -5,10 +5,9 @@ use Prim.Native.Nat.{ℕ}
 use Rattle.rules.specs.declared.Ring.{Ring}
 use Rattle.rules.specs.declared.Process.{Process}
 use Rattle.rules.specs.declared.Outcome.{Outcome}
-use Rattle.rules.specs.declared.Verdict.{Verdict}
-use Rattle.rules.specs.declared.Verdict.TheVariants.{Accepted, Refused}
+use Rattle.std.specs.Prelude.{Ok, Err}
 use Rattle.rules.specs.Memory.{apply}
-use Rattle.rules.specs.Answer.{memory_by}
+use Rattle.rules.specs.Answer.{Verdict, memory_by}
 use Rattle.rules.specs.Step.{Event, starts, looks, State, verdict, outcome, memory_after, step}
 use Rattle.rules.specs.History.{Run, begun, then}
 use Rattle.gatekeeper.specs.Entries.{state}
@@ -25,7 +24,7 @@ extended f m p e n o en eo r h run b =
     subst (λ (t : State). Run 63 f r t (record { before = state m p; event = e; verdict = verdict 63 f (state m p) e } ∷ h)) (reached f m p e n o en eo) (then run e b)
 
 pub began : (f m : List ℕ) (p : Process) (r : Ring) (n : List ℕ) (o : Outcome) → n ≡ memory_after 63 f (state m p) (starts r)
-    → o ≡ outcome 63 f (state m p) (starts r) → verdict 63 f (state m p) (starts r) ≡ Accepted → Run 63 f r (state n o.process) []
+    → o ≡ outcome 63 f (state m p) (starts r) → verdict 63 f (state m p) (starts r) ≡ Ok tt → Run 63 f r (state n o.process) []
 began f m p r n o en eo v = subst (λ (t : State). Run 63 f r t []) (reached f m p (starts r) n o en eo) (begun (state m p) v)
 
 -- a look leaves the store as it was, accepted or refused
@@ -34,5 +33,5 @@ unfolding memory_after apply
 look_keeps f m p k at = either (verdict 63 f (state m p) (looks k at))
   where
     either : (v : Verdict) → m ≡ memory_by v m m
-    either Accepted = refl
-    either (Refused n reason) = refl
+    either (Ok _) = refl
+    either (Err r) = refl

@@ -1,3 +1,2 @@
-mod Laws
 mod Going
 pub mod Parts

@@ -103,7 +103,7 @@ module _ (f a b : List ℕ) (s : State) (k : ℕ) (whole : length a ≡ k * 24) 
   state_in_parts =
       rw (records, first, state-then f (a ++ b) s 0 k (length b / 24), state_left a b f s 0 k inside, from, state_right a b f k whole (state_from f a s 0 k) 0 (length b / 24))
 
-  lines_in_parts : lines_from f (a ++ b) s 0 (length (a ++ b) / 24) ≡ lines_from f a s 0 (length a / 24) ++ lines_from f b (run_state f s a) 0 (length b / 24)
+  pub lines_in_parts : lines_from f (a ++ b) s 0 (length (a ++ b) / 24) ≡ lines_from f a s 0 (length a / 24) ++ lines_from f b (run_state f s a) 0 (length b / 24)
   unfolding run_state
   lines_in_parts =
       rw (records, first, lines_then f (a ++ b) s 0 k (length b / 24), lines_left a b f s 0 k inside, state_left a b f s 0 k inside, from, lines_right a b f k whole (state_from f a s 0 k) 0 (length b / 24))

@@ -1,4 +1,4 @@
-use Rattle.std.proofs.Common.{◌≡◌, sym, ◌∙◌}
+use Rattle.std.proofs.Common.{◌≡◌, sym, ◌∙◌, rules, replicate, length}
 use Rattle.rules.specs.Memory.{stack_length}
 use Rattle.rules.specs.Step.{judged_start, outcome, memory_after}
 use Rattle.rules.proofs.Memory.{then}
@@ -20,9 +20,9 @@ returns-in_default c =
 pub returns : goal.returns
 unfolding outcome memory_after
 returns c =
-    let accepted = sym (verdict (goal.at.returns c).After-judge_start-v) ∙ c.in-Accepted.is in
-    let made = rw c.clear.ensures at c.make_stack.ensures in
+    let accepted = sym (verdict (goal.at.returns c).After-judge_start-v) ∙ c.in-Ok.is in
+    let zeros : c.fill.new.self ≡ replicate (length c.args.s.now) 0 = search rules in
     record {
-      value = rw (accepted, c.start_record-process.ensures);
-      s_after = rw accepted (rw c.stack_length-len.ensures at (then _ _ _ _ _ _ made c.store_word.ensures));
+      value = rw (accepted, c.start_record.ensures, c.places.ensures);
+      s_after = rw accepted (rw c.stack_length-len.ensures at (then _ _ _ _ _ _ (rw zeros at c.make.ensures) c.store_word.ensures));
     }

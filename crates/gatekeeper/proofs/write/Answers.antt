@@ -12,8 +12,8 @@ returns-in_default c =
 pub returns : goal.returns
 unfolding outcome memory_after
 returns c =
-    let accepted = sym c.reach-v.ensures ∙ c.in-Accepted.is in
+    let accepted = sym c.reach-v.ensures ∙ c.in-Ok.is in
     record {
-      value = rw accepted (rw c.in-Accepted.is at c.unchanged-2.ensures);
+      value = rw accepted (rw c.in-Ok.is at c.unchanged-2.ensures);
       s_after = rw accepted (rw c.stack_length-len.ensures at c.store_word.ensures);
     }

@@ -1,9 +1,6 @@
-use Rattle.probe.specs.Digests.{entry_numbers}
-use Rattle.probe.proofs.Laws.{digest-then}
+use Rattle.std.proofs.Common.{◌≡◌, length, rules}
+use Rattle.probe.proofs.Laws.{entry_fold}
 use Rattle.probe.proofs.mix_entry.Goals as goal
 
 pub returns : goal.returns
-unfolding entry_numbers
-returns c =
-    simp digest-then
-    (rw (c.mix_argument-3.ensures, c.mix_argument-2.ensures, c.mix_argument-two.ensures, c.mix_argument.ensures, c.mix_ten-ten.ensures))
+returns c = let n : length c.args.e.now.arguments ≡ 4 = search rules in rw (entry_fold c.args.d c.args.e.now n) (search rules)
