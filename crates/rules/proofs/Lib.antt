@@ -10,6 +10,7 @@ pub mod Arguments
 pub mod Sums
 pub mod Refusals
 pub mod Verdicts
+pub mod Table
 pub mod Called
 pub mod Extent
 pub mod Runs

@@ -151,8 +151,18 @@ pub through : {A E : Type 0} (ts : List (Refusal E)) (a : A) → Passed ts → f
 through [] a n = refl
 through (t ∷ ts) a n = rw n.0 (through ts a n.1)
 
+-- a refusal whose test holds
+pub refused_if : {E : Type 0} {b : Bool} (e : E) → b ≡ true → refuse_if b e ≡ Err e
+unfolding refuse_if
+refused_if e h = rw h
+
 -- a refusal is given exactly where it is the first of its list
-pub given-when : {A E : Type 0} (ts : List (Refusal E)) (e : E) (us : List (Refusal E)) (a : A) → Passed ts
-    → first (ts ++ Err e ∷ us) a ≡ Err e
-given-when [] e us a n = refl
-given-when (t ∷ ts) e us a n = rw n.0 (given-when ts e us a n.1)
+pub given-when : {A E : Type 0} (ts : List (Refusal E)) (t : Refusal E) (e : E) (us : List (Refusal E)) (a : A) → Passed ts → t ≡ Err e
+    → first (ts ++ t ∷ us) a ≡ Err e
+given-when [] t e us a n h = rw h
+given-when (s ∷ ts) t e us a n h = rw n.0 (given-when ts t e us a n.1 h)
+
+-- and of tests exactly where it is the first whose test holds
+pub given_if : {A E : Type 0} (ts : List (Refusal E)) (b : Bool) (e : E) (us : List (Refusal E)) (a : A) → Passed ts → b ≡ true
+    → first (ts ++ refuse_if b e ∷ us) a ≡ Err e
+given_if ts b e us a n h = given-when ts (refuse_if b e) e us a n (refused_if e h)

@@ -3,14 +3,15 @@
 use Rattle.std.specs.Prelude.{List, ℕ, Ok, Err}
 use Rattle.rules.specs.declared.Process.{Process}
 use Rattle.rules.specs.declared.Barred.{Barred}
-use Rattle.rules.specs.declared.Barred.TheVariants.{Unlisted, NotExecute, AboveR3, NoCrossing, NotAGate, FromRing0, OtherFault}
+use Rattle.rules.specs.declared.Barred.TheVariants.{Unlisted, NotExecute, AboveR3, NoCrossing, NotAGate, FromRing0, OtherFault, OtherReason}
 use Rattle.rules.specs.declared.Unfit.{Unfit}
-use Rattle.rules.specs.declared.Unfit.TheVariants.{Place, Count, ListEnd, Length, Direction, NotPermitted}
+use Rattle.rules.specs.declared.Unfit.TheVariants.{Place, Count, ListEnd, Length, Direction, NotPermitted, OtherUnfit}
 use Rattle.rules.specs.declared.Refused.{Refused}
-use Rattle.rules.specs.declared.Refused.TheVariants.{StoreLength, SegmentFile, Target, ProcessRecord, FaultOrInstruction, Frame, RunningSegment, SavedLevel, CallsOpen, ArgumentList, TargetStack, NewFrame, NothingToReturn, StartRing, StackBelow, OutsideStack}
+use Rattle.rules.specs.declared.Refused.TheVariants.{StoreLength, SegmentFile, Target, ProcessRecord, FaultOrInstruction, Frame, RunningSegment, SavedLevel, CallsOpen, ArgumentList, TargetStack, NewFrame, NothingToReturn, StartRing, StackBelow, OutsideStack, OtherNumber}
 use Rattle.rules.specs.declared.Answer.{Answer}
 use Rattle.rules.specs.declared.Outcome.{Outcome}
 use Rattle.rules.specs.Tests.{Refusal}
+use Rattle.rules.specs.Bracket.{Decision}
 
 -- accepted, or refused
 abbrev pub Verdict : Type 0
@@ -26,6 +27,16 @@ barred_as NoCrossing = 4
 barred_as NotAGate = 5
 barred_as FromRing0 = 6
 barred_as OtherFault = 7
+barred_as (OtherReason n) = n
+
+-- document 01's number and reason for each case of a decision, 0 and 0 where a ring is entered
+abbrev pub decision_number : Decision → ℕ
+decision_number (Ok to) = 0
+decision_number (Err b) = 3
+
+abbrev pub decision_reason : Decision → ℕ
+decision_reason (Ok to) = 0
+decision_reason (Err b) = barred_as b
 
 -- "For 10: 1 place outside 8..L-1; 2 count above 4; 3 list passes L; then argument by argument 4 length, 5 direction, 6 not permitted."
 abbrev pub unfit_as : Unfit → ℕ
@@ -35,6 +46,7 @@ unfit_as ListEnd = 3
 unfit_as Length = 4
 unfit_as Direction = 5
 unfit_as NotPermitted = 6
+unfit_as (OtherUnfit n) = n
 
 -- the table of numbers
 abbrev pub number_of : Refused → ℕ
@@ -54,6 +66,7 @@ number_of NothingToReturn = 13
 number_of StartRing = 14
 number_of StackBelow = 15
 number_of OutsideStack = 16
+number_of (OtherNumber n reason) = n
 
 -- "Other numbers have reason 0."
 abbrev pub reason_of : Refused → ℕ
@@ -73,6 +86,7 @@ reason_of NothingToReturn = 0
 reason_of StartRing = 0
 reason_of StackBelow = 0
 reason_of OutsideStack = 0
+reason_of (OtherNumber n reason) = reason
 
 -- an accepted answer: number 0, reason 0, and the places
 abbrev pub places : ℕ → ℕ → ℕ → ℕ → Answer

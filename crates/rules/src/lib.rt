@@ -90,7 +90,8 @@ impl Segment {
 }
 
 // Why a target is refused, number 3: "1 unlisted or offset above 262143; 2 not execute; 3 above r3; 4 no crossing; 7 the fault's
-// direction differs; 5 inward, not a gate; 6 outward from ring 0".
+// direction differs; 5 inward, not a gate; 6 outward from ring 0". The last case is any reason that a decision made elsewhere has: it is
+// handed on. No decision here has it, and no reason but these seven is told: proofs/Table.antt, as for the two enums below.
 #[derive(Clone, Copy, Debug, PartialEq, Eq)]
 pub enum Barred {
     Unlisted,
@@ -100,10 +101,11 @@ pub enum Barred {
     NotAGate,
     FromRing0,
     OtherFault,
+    OtherReason(u32),
 }
 
 // Why an argument list is refused, number 10: "1 place outside 8..L-1; 2 count above 4; 3 list passes L; .. 4 length, 5 direction,
-// 6 not permitted".
+// 6 not permitted"; and any other reason.
 #[derive(Clone, Copy, Debug, PartialEq, Eq)]
 pub enum Unfit {
     Place,
@@ -112,9 +114,11 @@ pub enum Unfit {
     Length,
     Direction,
     NotPermitted,
+    OtherUnfit(u32),
 }
 
-// "Numbers given back": what is refused. Its number and reason are `number_of` and `reason_of` (specs/Answer.antt).
+// "Numbers given back": what is refused. Its number and reason are `number_of` and `reason_of` (specs/Answer.antt). The last case is any
+// other number, as the run program's 17, with its reason.
 #[derive(Clone, Copy, Debug, PartialEq, Eq)]
 pub enum Refused {
     StoreLength,
@@ -133,6 +137,7 @@ pub enum Refused {
     StartRing,
     StackBelow,
     OutsideStack,
+    OtherNumber { number: u32, reason: u32 },
 }
 
 // "Call": what a crossing request gives; a return uses the fault and the instruction alone. Both stay numbers, since any request is

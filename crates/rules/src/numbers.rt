@@ -19,6 +19,7 @@ impl Barred {
             Barred::NotAGate => 5,
             Barred::FromRing0 => 6,
             Barred::OtherFault => 7,
+            Barred::OtherReason(reason) => reason,
         }
     }
 }
@@ -35,6 +36,7 @@ impl Unfit {
             Unfit::Length => 4,
             Unfit::Direction => 5,
             Unfit::NotPermitted => 6,
+            Unfit::OtherUnfit(reason) => reason,
         }
     }
 }
@@ -61,6 +63,7 @@ impl Refused {
             Refused::StartRing => 14,
             Refused::StackBelow => 15,
             Refused::OutsideStack => 16,
+            Refused::OtherNumber { number, .. } => number,
         }
     }
 
@@ -71,6 +74,7 @@ impl Refused {
         match self {
             Refused::Target(b) => b.reason(),
             Refused::ArgumentList(u) => u.reason(),
+            Refused::OtherNumber { reason, .. } => reason,
             _ => 0,
         }
     }
