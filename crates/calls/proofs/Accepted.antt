@@ -4,21 +4,18 @@ use mathlib.Core.Bool.{Bool}
 use mathlib.Core.List.{List}
 use Prim.Native.Nat.{ℕ}
 use native.Mathlib.Omega.{arith}
-use Rattle.rules.specs.declared.Ring.{Ring}
-use Rattle.rules.specs.declared.Entry.{Entry}
 use Rattle.rules.specs.declared.Process.{Process}
 use Rattle.rules.specs.declared.Request.{Request}
 use Rattle.rules.specs.declared.Seen.{Seen}
-use Rattle.rules.specs.declared.Answer.{Answer}
 use Rattle.rules.specs.declared.Outcome.{Outcome}
 use Rattle.std.specs.Prelude.{Ok, Err}
 use Rattle.rules.specs.declared.Refused.{Refused}
 use Rattle.rules.specs.Memory.{spot, word, apply, stack_length}
 use Rattle.rules.specs.Segments.{file_sound}
-use Rattle.rules.specs.Record.{process_sound, added}
+use Rattle.rules.specs.Record.{process_sound}
 use Rattle.rules.specs.Arguments.{handed_of}
 use Rattle.rules.specs.Answer.{Verdict, places, outcome_by, memory_by}
-use Rattle.rules.specs.Call.{goes_outward, entered, decision, handed, seen, judged, call_verdict, call_stores, call_entry, call_next, call_answer}
+use Rattle.rules.specs.Call.{goes_outward, decision, handed, seen, judged, call_verdict, call_stores, call_next, call_answer}
 use Rattle.rules.proofs.Called.{called, words_taken, words-few}
 use Rattle.rules.proofs.Refusals.{kept}
 use Rattle.calls.specs.Ready.{Ready}
@@ -61,12 +58,10 @@ module _ (f m : List ℕ) (p : Process) (q : Request) where
       × (m ≡ memory_by (call_verdict 63 f m p q) m (apply (stack_length m) (call_stores m p.ring p.made p.calls p.serial q saw) m))
   refused_is r s k o = kept r p _ _ m _ s k o
 
-  -- accepted: the record with the entry added, the places, and the stores
-  pub accepted_is : (v : Seen) (w : Verdict) (e : Entry) (to : Ring) (after : Process) (given : Answer) (t : List ℕ)
-      → w ≡ Ok tt → w ≡ call_verdict 63 f m p q → v ≡ saw
-      → e ≡ call_entry p.ring p.serial q v → to ≡ entered v.decision → after ≡ added p e to → given ≡ call_answer q v
+  -- accepted: what the builder gives back and stores
+  pub accepted_is : (v : Seen) (w : Verdict) (r : Outcome) (t : List ℕ) → w ≡ Ok tt → w ≡ call_verdict 63 f m p q → v ≡ saw
+      → r ≡ outcome_by (Ok tt) p (call_next p q v) (call_answer q v)
       → t ≡ apply v.len (call_stores m p.ring p.made p.calls p.serial q v) m
-      → (◌≡◌ {A = Outcome} (record { process = after; answer = given }) (outcome_by (call_verdict 63 f m p q) p (call_next p q saw) (call_answer q saw)))
+      → (r ≡ outcome_by (call_verdict 63 f m p q) p (call_next p q saw) (call_answer q saw))
       × (t ≡ memory_by (call_verdict 63 f m p q) m (apply (stack_length m) (call_stores m p.ring p.made p.calls p.serial q saw) m))
-  unfolding call_next
-  accepted_is v w e to after given t a k s n d o g b = (rw (← k, a, o, n, d, g, s), rw (← k, a, ← length_seen) (rw s at b))
+  accepted_is v w r t a k s o b = (rw (← k, a) (rw s at o), rw (← k, a, ← length_seen) (rw s at b))

@@ -1,7 +1,7 @@
 // A call: judged, and on acceptance its frame, list, copies, base words and entry are built: document 01, "Call".
 #![tactic(auto)]
 
-ghost use Rattle.std.specs.Prelude.{◌≡◌, true, false, [], ◌∷◌, ◌++◌, ◌+◌, ◌*◌, ◌<◌, ◌≤◌, ltb, take, length};
+ghost use Rattle.std.specs.Prelude.{◌≡◌, Ok, true, false, [], ◌∷◌, ◌++◌, ◌+◌, ◌*◌, ◌<◌, ◌≤◌, ltb, take, length};
 ghost use Rattle.rules.specs.Tests.{pick};
 ghost use Rattle.rules.specs.Memory.{puts, apply, stack_length};
 ghost use Rattle.rules.specs.Made.{is_made, next_serial};
@@ -235,7 +235,24 @@ fn answer_of(q: Request, v: Seen) -> Answer
 
 // ---- A call
 
-// Judged by everything it reads; refused, nothing changes; accepted, all is built.
+// What an accepted call leaves: all is built, and the entry added. A function of its own, out of line, since a function pays at its entry for
+// the records that stand in it: so a refused call pays for none of these.
+#[inline(never)]
+fn accept(s: &mut [u32], p: Process, q: Request, v: Seen) -> Outcome
+    requires { Ready p.ring p.calls v }
+    ensures value { result ≡ outcome_by (Ok tt) p (call_next p q v) (call_answer q v) }
+    ensures s_after { s.new ≡ apply v.len (call_stores s.old p.ring p.made p.calls p.serial q v) s.old }
+{
+    build(s, &p, q, v);
+    let e = entry_of(&p, q, v);
+    let process = record::add_entry(p, e, judging::entered_ring(v.decision));
+    let answer = answer_of(q, v);
+    Outcome { process, answer }
+}
+
+// Judged by everything it reads; refused, nothing changes; accepted, all is built. Out of line, so that the programs' loop pays for the
+// records in it only where a call is asked.
+#[inline(never)]
 pub fn call(file: &[u8], s: &mut [u32], p: Process, q: Request) -> Outcome
     ensures value { result ≡ outcome_by (call_verdict 63 file.now s.old p q) p (call_next p q (seen file.now s.old p.ring p.made q)) (call_answer q (seen file.now s.old p.ring p.made q)) }
     ensures s_after { s.new ≡ memory_by (call_verdict 63 file.now s.old p q) s.old (apply (stack_length s.old) (call_stores s.old p.ring p.made p.calls p.serial q (seen file.now s.old p.ring p.made q)) s.old) }
@@ -248,9 +265,5 @@ pub fn call(file: &[u8], s: &mut [u32], p: Process, q: Request) -> Outcome
     let Ok(()) = verdict else {
         return judging::unchanged(p, verdict);
     };
-    build(s, &p, q, v);
-    let e = entry_of(&p, q, v);
-    let process = record::add_entry(p, e, judging::entered_ring(v.decision));
-    let answer = answer_of(q, v);
-    Outcome { process, answer }
+    accept(s, p, q, v)
 }

@@ -13,25 +13,25 @@ pub fn byte(f: &[u8], k: usize) -> u8
 }
 
 // Two bytes. This and the next are two, since `from_be_bytes` is a function of each type, and the rest past the end is spelled for each.
+// Whether the bytes lie within the slice is asked once for all of them, and only where they don't for each.
 pub fn half(f: &[u8], k: usize) -> u16
     ensures { result ≡ half_at f.now k }
 {
-    match f.get(k..) {
-        Some([a, b, ..]) => u16::from_be_bytes([*a, *b]),
-        Some([a]) => u16::from_be_bytes([*a, 0]),
-        _ => 0,
+    if let Some([a, b]) = f.get(k..k.saturating_add(2)) {
+        return u16::from_be_bytes([*a, *b]);
     }
+    u16::from_be_bytes([byte(f, k), 0])
 }
 
 // Four bytes.
 pub fn word(f: &[u8], k: usize) -> u32
     ensures { result ≡ word_at f.now k }
 {
+    if let Some([a, b, c, d]) = f.get(k..k.saturating_add(4)) {
+        return u32::from_be_bytes([*a, *b, *c, *d]);
+    }
     match f.get(k..) {
-        Some([a, b, c, d, ..]) => u32::from_be_bytes([*a, *b, *c, *d]),
-        Some([a, b, c]) => u32::from_be_bytes([*a, *b, *c, 0]),
-        Some([a, b]) => u32::from_be_bytes([*a, *b, 0, 0]),
-        Some([a]) => u32::from_be_bytes([*a, 0, 0, 0]),
-        _ => 0,
+        Some(rest) => u32::from_be_bytes([byte(rest, 0), byte(rest, 1), byte(rest, 2), 0]),
+        None => 0,
     }
 }

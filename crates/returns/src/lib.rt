@@ -61,7 +61,8 @@ fn answer_of(e: Entry) -> Answer
     Answer::places(e.segment, e.offset, e.frame, e.place)
 }
 
-// "The newest entry is struck and zeroed": a return by instruction 1.
+// "The newest entry is struck and zeroed": a return by instruction 1. Out of line, as a call is.
+#[inline(never)]
 pub fn give_back(file: &[u8], s: &mut [u32], p: Process, q: Request) -> Outcome
     ensures value { result ≡ outcome_by (return_verdict 63 file.now s.old p q) p (struck p) (return_answer (newest p)) }
     ensures s_after { s.new ≡ memory_by (return_verdict 63 file.now s.old p q) s.old (apply (stack_length s.old) (return_stores s.old (stack_length s.old) p.ring (newest p)) s.old) }

@@ -1,4 +1,4 @@
-use Rattle.std.proofs.Common.{◌≡◌, sym, ◌∙◌, arith}
+use Rattle.std.proofs.Common.{◌≡◌, sym, ◌∙◌}
 use Rattle.rules.specs.Call.{call_verdict}
 use Rattle.calls.proofs.Accepted.{verdict_is, ready, refused_is, accepted_is}
 use Rattle.calls.proofs.call.Goals as goal
@@ -15,19 +15,13 @@ returns-in_default c =
     let k = refused_is _ _ _ _ _ (verdict judged) c.in_default.is c.unchanged.ensures in
     record { value = k.0; s_after = k.1 }
 
-pub build-requires : goal.build-requires
-build-requires c =
-    let judged = (goal.at.build-requires c).After-judge_call-verdict in
+pub accept-requires : goal.accept-requires
+accept-requires c =
+    let judged = (goal.at.accept-requires c).After-judge_call-verdict in
     rw c.survey-v.ensures (ready _ _ _ _ (sym (verdict judged) ∙ c.in-Ok.is))
-
-pub answer_of-answer-requires : goal.answer_of-answer-requires
-answer_of-answer-requires c =
-    let judged = (goal.at.answer_of-answer-requires c).After-judge_call-verdict in
-    let h = ready _ _ _ _ (sym (verdict judged) ∙ c.in-Ok.is) in
-    rw c.survey-v.ensures (omega (arith, h.fits))
 
 pub returns : goal.returns
 returns c =
     let judged = (goal.at.returns c).After-judge_call-verdict in
-    let k = accepted_is _ _ _ _ _ _ _ _ _ _ _ c.in-Ok.is (verdict judged) c.survey-v.ensures c.entry_of-e.ensures c.entered_ring.ensures c.add_entry-process.ensures c.answer_of-answer.ensures c.build.ensures in
+    let k = accepted_is _ _ _ _ _ _ _ _ c.in-Ok.is (verdict judged) c.survey-v.ensures c.accept.ensures.value c.accept.ensures.s_after in
     record { value = k.0; s_after = k.1 }
