@@ -1,5 +1,5 @@
 -- Digits and written bytes: what one more digit makes, and what is written in two goes. Assumes nothing.
-use mathlib.Core.Path.{◌≡◌, refl}
+use mathlib.Core.Path.{◌≡◌, refl, sym, ap, ◌∙◌}
 use mathlib.Core.Bool.{Bool, true, false}
 use mathlib.Core.List.{List, [], ◌∷◌, ◌++◌}
 use Prim.Native.Nat.{ℕ, zero, suc, min, ◌+◌, ◌*◌, ◌/◌, ◌%◌, ◌^◌, ◌<◌, ◌≤◌, zero-le, suc-le-suc}
@@ -8,7 +8,7 @@ use native.Mathlib.Numerals.{add-one}
 use native.Mathlib.Omega.{arith}
 use lib.Dec.{ltb, leb-suc-zero, leb-suc-suc}
 use lib.ListN.{length, set, get_or, drop, length-append, drop_of_length-le, take}
-use lib.Seq.{drop-cons}
+use lib.Seq.{length-sets, drop-cons}
 use Rattle.std.proofs.lemmas.List.{take_min}
 use borrow.Author.Tests.{lt-ltb}
 use Rattle.rules.specs.Tests.{pick}
@@ -29,7 +29,7 @@ enough (suc k) n h = rw (enough k (n / 10) (tenth n (suc k) h))
 abbrev pub before_last : ℕ → List ℕ
 before_last n = pick (ltb n 10) [] (digits (n / 10))
 
-digits_last : (n : ℕ) → n < 2 ^ 32 → digits n ≡ before_last n ++ ((48 + n % 10) ∷ [])
+pub digits_last : (n : ℕ) → n < 2 ^ 32 → digits n ≡ before_last n ++ ((48 + n % 10) ∷ [])
 unfolding digits digits_in
 digits_last n l = rw (← enough 8 (n / 10) (omega arith))
 
@@ -52,6 +52,14 @@ pub written_then : (m : List ℕ) (at : ℕ) (a b : List ℕ) → written m at (
 unfolding written
 written_then m at [] b = rw add-zero
 written_then m at (v ∷ a) b = rw (written_then (set m at v) (suc at) a b, add-suc, suc-add)
+
+-- writing changes no length
+pub length-written : (m : List ℕ) (at : ℕ) (a : List ℕ) → length (written m at a) ≡ length m
+unfolding written
+length-written m at a = length-sets m at a
+
+pub same_room : (s m a b : List ℕ) (here at : ℕ) → written s here a ≡ written m at b → length s ≡ length m
+same_room s m a b here at e = sym (length-written s here a) ∙ ap length e ∙ length-written m at b
 
 -- ---- a number is written, from its first digit on
 

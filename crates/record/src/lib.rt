@@ -3,7 +3,7 @@
 
 ghost use Rattle.std.specs.Prelude.{◌≡◌, reverse};
 ghost use Rattle.std.specs.List.{list_all};
-ghost use Rattle.rules.specs.Record.{argument_sound, arguments_sound, inward_sound, outward_sound, open_sound, chained, entry_is_zero, process_sound, newest, added, struck};
+ghost use Rattle.rules.specs.Record.{argument_sound, arguments_sound, inward_sound, outward_sound, open_sound, chained, zero_entry, entry_is_zero, process_sound, newest, added, struck};
 
 use made::{is_made, with_made};
 use rules::{Argument, Entry, Process, Ring, all_lengths};
@@ -90,10 +90,17 @@ fn chain_sound(top: Ring, len: u32, made: u64, ring: Ring, calls: &[Entry]) -> b
     true
 }
 
+// An entry that is not open: "all zero".
+pub fn zero_entry() -> Entry
+    ensures { result ≡ zero_entry }
+{
+    Entry::default()
+}
+
 fn entry_is_zero(e: Entry) -> bool
     ensures { result ≡ entry_is_zero e }
 {
-    e == Entry::default()
+    e == zero_entry()
 }
 
 // The entries that are not open.
@@ -126,7 +133,7 @@ pub fn newest_entry(p: Process) -> Entry
     if 0 < p.calls && p.calls <= 32 {
         p.entries[p.calls as usize - 1]
     } else {
-        Entry::default()
+        zero_entry()
     }
 }
 
@@ -154,7 +161,7 @@ pub fn strike_newest(mut p: Process) -> Process
         p.calls -= 1;
         let at = p.calls as usize;
         p.ring = p.entries[at].old;
-        p.entries[at] = Entry::default();
+        p.entries[at] = zero_entry();
     }
     p
 }

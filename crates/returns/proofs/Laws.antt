@@ -118,6 +118,7 @@ ready f m p q accepted = go (ltb p.ring.0 e.old.0) known.way
         record {
           place = omega arith;
           count = few;
+          short = λ i l. let a = lent L e i known.arguments (omega arith) l in (a.most, omega arith);
           few = omega (arith, few_words e.count e.arguments (λ i l. (lent L e i known.arguments (omega arith) l).most));
         }
 

@@ -1,2 +1,3 @@
 mod Going
+mod Laws
 pub mod Parts

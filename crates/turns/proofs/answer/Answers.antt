@@ -24,12 +24,12 @@ loop-record-preserved c =
 pub returns-else-taken-ne0 : goal.returns-else-taken-ne0
 returns-else-taken-ne0 c =
     let i = c.loop-record.invariant in
-    let d = none_left _ _ _ _ _ _ _ _ _ _ i.going (rw i.size at c.in-None.ensures.steps.1.0) (rw (c.min.ensures, first_of) at c.if-taken-ne0.false) in
+    let d = none_left _ _ _ _ _ _ _ _ _ _ i.going (rw i.size at c.in-None.ensures.steps.1.0) (omega (arith, rw (c.min.ensures, first_of) at c.if-taken-ne0.false)) in
     record { value = d.0; at_bound = omega (arith, i.going.small); out_after = d.1; s_after = d.2 }
 
 pub returns-then-taken-ne0 : goal.returns-then-taken-ne0
 returns-then-taken-ne0 c =
     let i = c.loop-record.invariant in
     let d =
-    some_left _ _ _ _ _ _ _ _ _ _ i.going (rw i.size at c.in-None.ensures.steps.1.0) _ _ _ (rw (c.min.ensures, first_of) at c.if-taken-ne0.true) c.wrong.ensures c.put_turn-at-then-taken-ne0.ensures.value c.put_turn-at-then-taken-ne0.ensures.out_after in
+    some_left _ _ _ _ _ _ _ _ _ _ i.going (rw i.size at c.in-None.ensures.steps.1.0) _ _ _ (λ e. (rw (c.min.ensures, first_of) at c.if-taken-ne0.true) (omega (arith, e))) c.wrong.ensures c.put_turn-at-then-taken-ne0.ensures.value c.put_turn-at-then-taken-ne0.ensures.out_after in
     record { value = d.0; at_bound = omega (arith, i.going.small, line-short (Err wrong) c.wrong.result); out_after = d.1; s_after = d.2 }
