@@ -7,19 +7,20 @@ use Prim.Native.Nat.{ℕ}
 use Rattle.rules.specs.declared.Ring.{Ring}
 use Rattle.rules.specs.declared.Segment.{Segment}
 use Rattle.rules.specs.Bracket.{Decision, goes_out, fault_of, decision_of}
-use Rattle.rules.specs.Answer.{decision_reason}
+use Rattle.rules.specs.Answer.{decision_number, decision_reason}
 use Rattle.std.specs.Prelude.{Ok, Err}
 use Rattle.rules.specs.declared.Barred.{Barred}
 use Rattle.rules.specs.declared.Barred.TheVariants.{AboveR3, NoCrossing, FromRing0}
 use Rattle.rules.specs.Tests.{refuse_if}
 
--- a decision, and the document's number for its reason, 0 where a ring is entered
+-- a decision, and the document's number and reason for it, 0 and 0 where a ring is entered
 pub record Told : Type 0 where
   pub decision : Decision
+  pub number : ℕ
   pub reason : ℕ
 
 abbrev told : Decision → Told
-told d = record { decision = d; reason = decision_reason d }
+told d = record { decision = d; number = decision_number d; reason = decision_reason d }
 
 -- a segment's brackets, the caller's ring, and the document's answer
 pub record Case : Type 0 where
@@ -32,10 +33,10 @@ ring k = record { 0 = k }
 
 -- what the document's answers say: a ring that is entered, and a reason by its number, which the code has a name for
 abbrev enters : ℕ → Told
-enters k = record { decision = Ok (ring k); reason = 0 }
+enters k = record { decision = Ok (ring k); number = 0; reason = 0 }
 
 abbrev reason : ℕ → Barred → Told
-reason n b = record { decision = Err b; reason = n }
+reason n b = record { decision = Err b; number = 3; reason = n }
 
 -- (r1,r2,r3) with execute on, from ring r
 abbrev from : ℕ → ℕ → ℕ → ℕ → Told → Case

@@ -10,9 +10,11 @@ use Rattle.rules.specs.declared.Unfit.{Unfit}
 use Rattle.rules.specs.declared.Refused.{Refused}
 use Rattle.rules.specs.declared.Refused.TheVariants.{Target}
 use Rattle.rules.specs.declared.Request.{Request}
+use Rattle.rules.specs.declared.Entry.{Entry}
+use Rattle.rules.specs.declared.Seen.{Seen}
 use Rattle.rules.specs.Tests.{pick, Refusal, refuse_if, first}
 use Rattle.rules.specs.Segments.{lookup_of, is_gate}
-use Rattle.rules.specs.Record.{newest}
+use Rattle.rules.specs.Memory.{stack_length}
 use Rattle.rules.specs.Bracket.{Decision, aimed, reasons, decision_of, target_in, target_of}
 use Rattle.rules.specs.Arguments.{group_or, argument_reasons, argument_reason, member_reason, list_reasons, list_reason, handed_of}
 use Rattle.rules.specs.Answer.{barred_as, decision_number, decision_reason, unfit_as, number_of, reason_of}
@@ -106,20 +108,36 @@ list_listed : (t : Refusal Unfit) → Tells For10 t → Tells Listed (list_test 
 list_listed (Ok _) h = accepts Listed tt
 list_listed (Err u) h = refuses Listed _ (rw (h u refl))
 
-module _ (top : ℕ) (f : List ℕ) (s : State) where
-  return_tells : (q : Request) → Tells Listed (return_verdict top f s.memory s.process q)
-  unfolding return_verdict judged_back
-  return_tells q = of_first (return_tests _ _ _ _ _ q (newest s.process)) tt (search (test, none) depth 20)
+-- ---- the judges: whatever they are given, but for what a call has seen of target and list
 
-  call_tells : (q : Request) → Tells Listed (call_verdict top f s.memory s.process q)
-  unfolding call_verdict judged seen decision handed handed_of
-  call_tells q =
-      of_first (call_tests _ _ _ _ q (seen f s.memory s.process.ring s.process.made q)) tt
-      (search (test, more, none, target_listed, target_tells, list_listed, list_tells) depth 30)
+module _ (top L : ℕ) (file sound : Bool) (calls : ℕ) (ring : Ring) where
+  pub call_tells : (q : Request) (v : Seen) → Tells For3 v.decision → Tells For10 v.handed.fit → Tells Listed (judged top file sound calls q v)
+  unfolding judged
+  call_tells q v d l =
+      of_first (call_tests top file sound calls q v) tt (search (test, more, none, target_listed v.decision d, list_listed v.handed.fit l) depth 30)
+
+  pub return_tells : (q : Request) (e : Entry) → Tells Listed (judged_back L file sound calls ring q e)
+  unfolding judged_back
+  return_tells q e = of_first (return_tests L file sound calls ring q e) tt (search (test, none) depth 20)
+
+  pub start_tells : Tells Listed (judged_start top L ring)
+  unfolding judged_start
+  start_tells = of_first (start_tests top L ring) tt (search (test, none) depth 20)
+
+  pub reach_tells : (k : Ring) (at room : ℕ) → Tells Listed (judged_reach top L sound ring k at room)
+  unfolding judged_reach
+  reach_tells k at room = of_first (reach_tests top L sound ring k at room) tt (search (test, none) depth 20)
+
+-- ---- and so every verdict
+
+module _ (top : ℕ) (f : List ℕ) (s : State) where
+  called : (q : Request) → Tells Listed (call_verdict top f s.memory s.process q)
+  unfolding call_verdict seen decision handed handed_of
+  called q = call_tells top 0 _ _ _ s.process.ring q _ (target_tells f _ _ _ _) (list_tells f s.memory _ _ _ _ _ _)
 
   pub told : (e : Event) (r : Refused) → verdict top f s e ≡ Err r → in_table (number_of r) (reason_of r) ≡ true
-  unfolding judged_start reach_verdict judged_reach
-  told (starts r) = of_first (start_tests top _ r) tt (search (test, none) depth 20)
-  told (crosses q) = either (returns q) (return_tells q) (call_tells q)
-  told (writes k at v) = of_first (reach_tests top _ _ _ k at 1) tt (search (test, none) depth 20)
-  told (looks k at) = of_first (reach_tests top _ _ _ k at 32) tt (search (test, none) depth 20)
+  unfolding reach_verdict return_verdict
+  told (starts r) = start_tells top (stack_length s.memory) true true 0 r
+  told (crosses q) = either (returns q) (return_tells top _ _ _ _ _ q _) (called q)
+  told (writes k at v) = reach_tells top _ true _ 0 _ k at 1
+  told (looks k at) = reach_tells top _ true _ 0 _ k at 32

@@ -48,7 +48,7 @@ unfit_as Direction = 5
 unfit_as NotPermitted = 6
 unfit_as (OtherUnfit n) = n
 
--- the table of numbers
+-- the table of numbers; and any other number, which no verdict gives (proofs/Table.antt)
 abbrev pub number_of : Refused → ℕ
 number_of StoreLength = 1
 number_of SegmentFile = 2
@@ -68,7 +68,7 @@ number_of StackBelow = 15
 number_of OutsideStack = 16
 number_of (OtherNumber n reason) = n
 
--- "Other numbers have reason 0."
+-- "Other numbers have reason 0"; one that is not in the table has what it carries
 abbrev pub reason_of : Refused → ℕ
 reason_of (Target b) = barred_as b
 reason_of (ArgumentList u) = unfit_as u

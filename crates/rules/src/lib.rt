@@ -91,7 +91,7 @@ impl Segment {
 
 // Why a target is refused, number 3: "1 unlisted or offset above 262143; 2 not execute; 3 above r3; 4 no crossing; 7 the fault's
 // direction differs; 5 inward, not a gate; 6 outward from ring 0". The last case is any reason that a decision made elsewhere has: it is
-// handed on. No decision here has it, and no reason but these seven is told: proofs/Table.antt, as for the two enums below.
+// handed on. No decision here gives a reason but these seven, and so with the two enums below: proofs/Table.antt.
 #[derive(Clone, Copy, Debug, PartialEq, Eq)]
 pub enum Barred {
     Unlisted,

@@ -42,7 +42,7 @@ impl Unfit {
 }
 
 impl Refused {
-    // The table's number.
+    // The table's number, or one that is not in it.
     pub fn number(self) -> u32
         ensures { result ≡ number_of self }
     {
@@ -67,7 +67,7 @@ impl Refused {
         }
     }
 
-    // "Other numbers have reason 0."
+    // "Other numbers have reason 0"; one that is not in the table has what it carries.
     pub fn reason(self) -> u32
         ensures { result ≡ reason_of self }
     {
